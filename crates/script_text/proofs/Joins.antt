@@ -51,9 +51,6 @@ continued_assoc l m n =
 
 -- ---- lines followed by lines
 
-going_nil : (l : LeftLine) → going_on l [] ≡ l ∷ []
-going_nil l = refl
-
 pub followed-nil : (ls : List LeftLine) → followed_by ls [] ≡ ls
 unfolding followed_by
 followed-nil [] = refl

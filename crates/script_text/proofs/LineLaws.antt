@@ -7,17 +7,17 @@ use Rattle.std.proofs.lemmas.Str.Ascii.{IsAscii-cons, IsAscii-nil}
 use Rattle.std.proofs.lemmas.Fmt.{IsAscii-decimal}
 use Rattle.std.specs.Str.{IsAscii, all_scalars}
 use Rattle.std.specs.Prelude.{IsSomeAnd}
-use Rattle.hex.specs.Hex.{encode_lower, lower_digits}
+use Rattle.hex.specs.Hex.{decode_of, encode_lower, lower_digits, IsBytes}
 use Rattle.hex.proofs.HexLemmas.{decode_of-encode_lower, decode_of-ok, IsAscii-encode_with}
 use Rattle.script_text.specs.declared.reading.line.Line.{Line}
-use Rattle.script_text.specs.declared.reading.line.Line.TheVariants.{Blank, Sites, Ins, Run, Nl, Del, Undo, Redo, Give, All, Sync, Raw, Show, State}
+use Rattle.script_text.specs.declared.reading.line.Line.TheVariants.{Blank, Sites, Ins, Run, Nl, Del, Undo, Redo, Give, All, Sync, Raw, Raw2, Show, State}
 use Rattle.script_text.specs.declared.reading.line.LineBad.{LineBad}
 use Rattle.script_text.specs.declared.reading.line.LineBad.TheVariants.{Limit, Long, Utf8, Form, Memory}
 use Rattle.op_name.specs.NameData.{NameData, IsName}
 use Rattle.op_name.specs.declared.name.TheConstants.{SITES}
 use Rattle.site_answers.specs.Names.{name_text}
 use Rattle.script_text.specs.Fields.{IsText, cut, pair_by, number_of, site_of, count_of, name_of, text_of, octets_of, IsNumber, IsSite, IsNameText, IsCharacters, IsHex, IsPair}
-use Rattle.script_text.specs.Rows.{Row, table, row_in, sites_row, ins_row, run_row, nl_row, del_row, undo_row, redo_row, give_row, all_row, raw_row, show_row, state_row}
+use Rattle.script_text.specs.Rows.{Row, table, row_in, sites_row, ins_row, run_row, nl_row, del_row, undo_row, redo_row, give_row, all_row, raw_row, raw2_row, show_row, state_row}
 use Rattle.script_text.specs.declared.reading.parse.TheConstants.{LONGEST}
 use Rattle.script_text.specs.Lines.{command, two, spelling, IsInRange, IsLine, HasContent}
 use Rattle.script_text.specs.Answers.{line_in, LineAnswers, Answers, IsReadAs}
@@ -142,14 +142,30 @@ run_found : (bs : List ℕ) (l : Line) → run_row bs ≡ Some l → IsLine (com
 unfolding run_row
 run_found = text_found (codes "run") (λ s v t. Run s v t) (λ s v t few low some ok. (refl, (few, low, some, ok)))
 
-raw_found : (bs : List ℕ) (l : Line) → raw_row bs ≡ Some l → IsLine (command (codes "raw") bs) l
-unfolding raw_row
-raw_found bs l e =
+-- a row of a site and bytes
+octets_found : (word : List ℕ) (make : ℕ → List ℕ → Line)
+    → ((site : ℕ) (bytes hex bs : List ℕ) → bs ≡ two (decimal site) hex → decode_of hex ≡ Ok bytes → site < SITES → 0 < length bytes
+    → IsBytes bytes → IsLine (command word bs) (make site bytes))
+    → (bs : List ℕ) (l : Line) → option_map (λ (x : ℕ × List ℕ). make x.0 x.1) (pair_by 32 site_of octets_of bs) ≡ Some l
+    → IsLine (command word bs) l
+octets_found word make is bs l e =
     let m = mapped_some _ (pair_by 32 site_of octets_of bs) l e in
     let h = site_and_octets.from bs m.0 m.1 in
     let spelled = two_is bs h.0 h.1 (decimal m.0.0) h.1 h.2 h.3.0 refl in
     let ok = decode_of-ok h.1 m.0.1 h.4.0 in
-    subst (IsLine (command (codes "raw") bs)) m.2 ((h.1, ap (command (codes "raw")) spelled, h.4.0), (h.3.1, h.4.1, ok.3))
+    subst (IsLine (command word bs)) m.2 (is m.0.0 m.0.1 h.1 bs spelled h.4.0 h.3.1 h.4.1 ok.3)
+
+raw_found : (bs : List ℕ) (l : Line) → raw_row bs ≡ Some l → IsLine (command (codes "raw") bs) l
+unfolding raw_row
+raw_found =
+    octets_found (codes "raw") (λ s b. Raw s b)
+    (λ s b hex bs spelled ok few some are. ((hex, ap (command (codes "raw")) spelled, ok), (few, some, are)))
+
+raw2_found : (bs : List ℕ) (l : Line) → raw2_row bs ≡ Some l → IsLine (command (codes "raw2") bs) l
+unfolding raw2_row
+raw2_found =
+    octets_found (codes "raw2") (λ s b. Raw2 s b)
+    (λ s b hex bs spelled ok few some are. ((hex, ap (command (codes "raw2")) spelled, ok), (few, some, are)))
 
 -- every row of the list reads what is spelled by its word and the fields
 AllFound : List Row → Type 0
@@ -165,8 +181,11 @@ table_found = (
     (
       raw_found,
       (
-        sites_found,
-        (nl_found, (del_found, (undo_found, (redo_found, (give_found, (all_found, (show_found, (state_found, tt)))))))),
+        raw2_found,
+        (
+          sites_found,
+          (nl_found, (del_found, (undo_found, (redo_found, (give_found, (all_found, (show_found, (state_found, tt)))))))),
+        ),
       ),
     ),
   ),
@@ -196,7 +215,7 @@ line_found (b ∷ bs) l e =
     e
 
 pub line_only : (bs : List ℕ) (l : Line) → IsLine bs l → line_in bs ≡ Some l
-unfolding line_in cut sites_row ins_row run_row nl_row del_row undo_row redo_row give_row all_row raw_row show_row state_row
+unfolding line_in cut sites_row ins_row run_row nl_row del_row undo_row redo_row give_row all_row raw_row raw2_row show_row state_row
 line_only bs Blank (inl e, r) = rw e refl
 line_only bs Blank (inr h, r) = rw h.1 refl
 line_only bs (Sites count) (e, r) = ap line_in e ∙ ap (option_map (λ n. Sites n)) (count_reads.to (decimal count) count (refl, r.0, r.1))
@@ -231,6 +250,9 @@ line_only bs (Run site place text) (e, r) =
 line_only bs Sync (e, r) = rw e refl
 line_only bs (Raw site bytes) (h, r) =
     ap line_in h.1 ∙ ap (option_map (λ (x : ℕ × List ℕ). Raw x.0 x.1))
+    (site_and_octets.to _ (site, bytes) (decimal site, h.0, refl, (refl, r.0), (h.2, r.1)))
+line_only bs (Raw2 site bytes) (h, r) =
+    ap line_in h.1 ∙ ap (option_map (λ (x : ℕ × List ℕ). Raw2 x.0 x.1))
     (site_and_octets.to _ (site, bytes) (decimal site, h.0, refl, (refl, r.0), (h.2, r.1)))
 
 -- the clauses of the call, from its answer
@@ -280,6 +302,7 @@ answers_memory bs (Err Utf8) h e = cc
 pub spelling_is : (l : Line) → IsInRange l → IsLine (spelling l) l
 spelling_is Blank r = (inl refl, r)
 spelling_is (Raw site bytes) r = ((encode_lower bytes, refl, decode_of-encode_lower bytes r.2), r)
+spelling_is (Raw2 site bytes) r = ((encode_lower bytes, refl, decode_of-encode_lower bytes r.2), r)
 spelling_is (Sites count) r = (refl, r)
 spelling_is (Ins site place text) r = (refl, r)
 spelling_is (Run site place text) r = (refl, r)
@@ -326,6 +349,12 @@ name_utf8 n h =
 lower_ascii : IsAscii lower_digits
 lower_ascii = low_ascii lower_digits refl
 
+octets_utf8 : (word : List ℕ) → all_low word ≡ true → (site : ℕ) (bytes : List ℕ) → site < SITES
+    → IsUtf8 (command word (two (decimal site) (encode_lower bytes)))
+octets_utf8 word low site bytes few =
+    blank_utf8 _ _ (word_utf8 word low) (blank_utf8 _ _ (number_utf8 site (omega (arith, few)))
+    (IsUtf8-from_ascii (encode_lower bytes) (IsAscii-encode_with lower_digits bytes lower_ascii)))
+
 pub spelling_utf8 : (l : Line) → IsInRange l → IsUtf8 (spelling l)
 spelling_utf8 Blank r = IsUtf8-nil
 spelling_utf8 (Sites count) r = blank_utf8 _ _ (word_utf8 (codes "sites") refl) (number_utf8 count (omega arith))
@@ -349,6 +378,5 @@ spelling_utf8 (All site) r = blank_utf8 _ _ (word_utf8 (codes "all") refl) (numb
 spelling_utf8 (Show site) r = blank_utf8 _ _ (word_utf8 (codes "show") refl) (number_utf8 site (omega arith))
 spelling_utf8 (State site) r = blank_utf8 _ _ (word_utf8 (codes "state") refl) (number_utf8 site (omega arith))
 spelling_utf8 Sync r = word_utf8 (codes "sync") refl
-spelling_utf8 (Raw site bytes) r =
-    blank_utf8 _ _ (word_utf8 (codes "raw") refl) (blank_utf8 _ _ (number_utf8 site (omega arith))
-    (IsUtf8-from_ascii (encode_lower bytes) (IsAscii-encode_with lower_digits bytes lower_ascii)))
+spelling_utf8 (Raw site bytes) r = octets_utf8 (codes "raw") refl site bytes r.0
+spelling_utf8 (Raw2 site bytes) r = octets_utf8 (codes "raw2") refl site bytes r.0

@@ -1,9 +1,9 @@
 -- Lists of sites with their counts, and of undone names: each is read where it is spelled, and nothing else is.
-use Rattle.std.proofs.Common.{◌≡◌, ℕ, zero, suc, ◌+◌, ◌<◌, ◌≤◌, Bool, true, false, ◌==◌, ◌&&◌, nat_le, List, [], ◌∷◌, ◌++◌, length, map, codes, bytes_eq, decimal, get_or, Option, Some, None, refl, sym, ap, ap₂, ◌∙◌, subst, arith, le-leb, leb-true, ne_eqb, eqb-true, option_map, inl, inr, append_assoc}
-use Rattle.std.specs.Prelude.{if◌then◌else◌, is_some, unwrap_or, drop}
+use Rattle.std.proofs.Common.{◌≡◌, ℕ, ◌+◌, ◌<◌, ◌≤◌, Bool, true, false, ◌==◌, List, [], ◌∷◌, ◌++◌, length, map, codes, bytes_eq, decimal, get_or, Option, Some, None, refl, sym, ap, ap₂, ◌∙◌, subst, arith, le-leb, leb-true, ne_eqb, option_map, append_assoc}
+use Rattle.std.specs.Prelude.{if◌then◌else◌, is_some, unwrap_or}
 use Rattle.std.specs.Int.{IsInRange}
 use Rattle.std.specs.List.{slice_split, join_with_byte, All}
-use Rattle.std.proofs.lemmas.Bool.{cases_Bool, cond_both}
+use Rattle.std.proofs.lemmas.Bool.{cond_both}
 use Rattle.std.proofs.lemmas.List.{append-nil, get_or_default}
 use Rattle.std.proofs.lemmas.List.Splits.{slice_split-cons_yes, slice_split-cons_no, slice_split_none, slice_split_at, length-slice_split, join_with_byte-slice_split}
 use Rattle.std.proofs.lemmas.Slice.Eq.{bytes_eq-Decides}
@@ -11,12 +11,12 @@ use Rattle.op_name.specs.NameData.{NameData, IsName, IsBefore, name_lt}
 use Rattle.op_name.specs.declared.name.TheConstants.{SITES, NUMBERS}
 use Rattle.op_name.specs.declared.member.TheConstants.{GENERATIONS}
 use Rattle.op_name.proofs.CallerLemmas.{name_transitive}
-use Rattle.context_vector.specs.Contexts.{ContextData, AreCounts, AreEntries, IsContext, empty}
+use Rattle.context_vector.specs.Contexts.{ContextData, AreCounts, AreEntries, empty}
 use Rattle.context_vector.specs.Vectors.{SitesBelow, NamesBelow}
 use Rattle.site_answers.specs.Names.{name_text, group_text}
-use Rattle.script_text.specs.Fields.{cut, tested, name_of, generation_of, site_of, number_of, IsSite, IsNameText, IsGeneration, ◌>>=◌}
+use Rattle.script_text.specs.Fields.{cut, tested, name_of, generation_of, site_of, IsSite, IsNameText, IsGeneration, ◌>>=◌}
 use Rattle.script_text.specs.Report.{listed, count_text}
-use Rattle.script_text.specs.Sets.{items_of, originals_of, site_count_of, undone_of, rising_of, comes_from, comes_after, rising_counts, rising_entries, counts_of, entries_of, set_of, set_or_empty, IsSetText}
+use Rattle.script_text.specs.Sets.{items_of, originals_of, site_count_of, undone_of, rising_of, comes_from, comes_after, counts_of, entries_of, set_of, set_or_empty, IsSetText}
 use Rattle.script_text.proofs.FieldLaws.{Lacks, Reads, and_then_some, some_is, some_if, tested_reads, from_one_reads, pair_reads, number_lacks, site_reads, site_lacks, name_reads}
 use Rattle.script_text.proofs.MemberLaws.{lacks_first, lacks_both, name_lacks, generation_reads, spelled}
 

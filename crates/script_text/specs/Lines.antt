@@ -5,7 +5,7 @@ use Rattle.hex.specs.Hex.{decode_of, encode_lower, IsBytes}
 use Rattle.op_name.specs.NameData.{IsName}
 use Rattle.op_name.specs.declared.name.TheConstants.{SITES}
 use Rattle.script_text.specs.declared.reading.line.Line.{Line}
-use Rattle.script_text.specs.declared.reading.line.Line.TheVariants.{Blank, Sites, Ins, Run, Nl, Del, Undo, Redo, Give, All, Sync, Raw, Show, State}
+use Rattle.script_text.specs.declared.reading.line.Line.TheVariants.{Blank, Sites, Ins, Run, Nl, Del, Undo, Redo, Give, All, Sync, Raw, Raw2, Show, State}
 use Rattle.site_answers.specs.Names.{name_text}
 
 -- a word and its fields; two fields
@@ -15,7 +15,7 @@ command word fields = word ++ 32 ∷ fields
 abbrev pub two : List ℕ → List ℕ → List ℕ
 two first second = first ++ 32 ∷ second
 
--- the spelling of a line; one of its spellings for a line that does nothing and for `raw`
+-- the spelling of a line; one of its spellings for a line that does nothing, and for `raw` and `raw2`
 abbrev pub spelling : Line → List ℕ
 spelling Blank = []
 spelling (Sites count) = command (codes "sites") (decimal count)
@@ -29,6 +29,7 @@ spelling (Give site message) = command (codes "give") (two (decimal site) (decim
 spelling (All site) = command (codes "all") (decimal site)
 spelling Sync = codes "sync"
 spelling (Raw site bytes) = command (codes "raw") (two (decimal site) (encode_lower bytes))
+spelling (Raw2 site bytes) = command (codes "raw2") (two (decimal site) (encode_lower bytes))
 spelling (Show site) = command (codes "show") (decimal site)
 spelling (State site) = command (codes "state") (decimal site)
 
@@ -46,14 +47,16 @@ IsInRange (Give site message) = (site < SITES) × (message < 2 ^ 32)
 IsInRange (All site) = site < SITES
 IsInRange Sync = Unit {0}
 IsInRange (Raw site bytes) = (site < SITES) × (0 < length bytes) × IsBytes bytes
+IsInRange (Raw2 site bytes) = (site < SITES) × (0 < length bytes) × IsBytes bytes
 IsInRange (Show site) = site < SITES
 IsInRange (State site) = site < SITES
 
--- the bytes spell what the line says. A line that does nothing is empty or starts with `#`; the digits of `raw` are of
+-- the bytes spell what the line says. A line that does nothing is empty or starts with `#`; the digits of `raw` and `raw2` are of
 -- either case; each other line has its one spelling
 abbrev pub IsSpelled : List ℕ → Line → Type 0
 IsSpelled bs Blank = (bs ≡ []) ⊎ ((cs : List ℕ) × (bs ≡ 35 ∷ cs))
 IsSpelled bs (Raw site bytes) = (hex : List ℕ) × (bs ≡ command (codes "raw") (two (decimal site) hex)) × (decode_of hex ≡ Ok bytes)
+IsSpelled bs (Raw2 site bytes) = (hex : List ℕ) × (bs ≡ command (codes "raw2") (two (decimal site) hex)) × (decode_of hex ≡ Ok bytes)
 IsSpelled bs line = bs ≡ spelling line
 
 -- the bytes are the line: a row of the table, spelled so, with its parts in range
@@ -74,6 +77,7 @@ line_site (Redo site name) = Some site
 line_site (Give site message) = Some site
 line_site (All site) = Some site
 line_site (Raw site bytes) = Some site
+line_site (Raw2 site bytes) = Some site
 line_site (Show site) = Some site
 line_site (State site) = Some site
 
@@ -82,4 +86,5 @@ abbrev pub HasContent : Line → Type 0
 HasContent (Ins site place text) = Unit {0}
 HasContent (Run site place text) = Unit {0}
 HasContent (Raw site bytes) = Unit {0}
+HasContent (Raw2 site bytes) = Unit {0}
 HasContent line = ⊥

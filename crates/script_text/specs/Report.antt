@@ -30,13 +30,14 @@ op_words_text message words = codes "op " ++ (decimal message ++ (codes " " ++ (
 abbrev pub op_text : ℕ → OpData → List ℕ
 op_text message o = op_words_text message (made_words o)
 
--- a frame of `raw` that is bad, with the word of the cause, or too short
-abbrev pub raw_bad_text : ℕ → List ℕ → ℕ → List ℕ
-raw_bad_text site cause offset =
-    codes "raw " ++ (decimal site ++ (codes " bad " ++ (cause ++ (codes " " ++ (decimal offset ++ codes "\n")))))
+-- a frame of a line of bytes, `raw` or `raw2`, that is bad, with the word of the cause, or too short; each begins with the line's word
+abbrev pub raw_bad_text : List ℕ → ℕ → List ℕ → ℕ → List ℕ
+raw_bad_text word site cause offset =
+    word ++ (codes " " ++ (decimal site ++ (codes " bad " ++ (cause ++ (codes " " ++ (decimal offset ++ codes "\n"))))))
 
-abbrev pub raw_more_text : ℕ → ℕ → List ℕ
-raw_more_text site at_least = codes "raw " ++ (decimal site ++ (codes " more " ++ (decimal at_least ++ codes "\n")))
+abbrev pub raw_more_text : List ℕ → ℕ → ℕ → List ℕ
+raw_more_text word site at_least =
+    word ++ (codes " " ++ (decimal site ++ (codes " more " ++ (decimal at_least ++ codes "\n"))))
 
 -- `text CHARS BYTES`, a line feed, the text, a line feed
 abbrev pub shown_text : ℕ → List ℕ → List ℕ

@@ -1,7 +1,7 @@
 -- The table of lines, as it is read: a word, and a reader of the fields after it.
 use Rattle.std.specs.Prelude.{ℕ, List, [], ◌∷◌, codes, bytes_eq, Option, None, option_map, if◌then◌else◌}
 use Rattle.script_text.specs.declared.reading.line.Line.{Line}
-use Rattle.script_text.specs.declared.reading.line.Line.TheVariants.{Sites, Ins, Run, Nl, Del, Undo, Redo, Give, All, Raw, Show, State}
+use Rattle.script_text.specs.declared.reading.line.Line.TheVariants.{Sites, Ins, Run, Nl, Del, Undo, Redo, Give, All, Raw, Raw2, Show, State}
 use Rattle.script_text.specs.Fields.{pair_by, count_of, site_of, number_of, name_of, text_of, octets_of}
 
 unfoldable pub sites_row : List ℕ → Option Line
@@ -34,6 +34,9 @@ all_row bs = option_map (λ s. All s) (site_of bs)
 unfoldable pub raw_row : List ℕ → Option Line
 raw_row bs = option_map (λ x. Raw x.0 x.1) (pair_by 32 site_of octets_of bs)
 
+unfoldable pub raw2_row : List ℕ → Option Line
+raw2_row bs = option_map (λ x. Raw2 x.0 x.1) (pair_by 32 site_of octets_of bs)
+
 unfoldable pub show_row : List ℕ → Option Line
 show_row bs = option_map (λ s. Show s) (site_of bs)
 
@@ -51,7 +54,7 @@ plain_table =
     ∷ (codes "give", give_row) ∷ (codes "all", all_row) ∷ (codes "show", show_row) ∷ (codes "state", state_row) ∷ []
 
 abbrev pub table : List Row
-table = (codes "ins", ins_row) ∷ (codes "run", run_row) ∷ (codes "raw", raw_row) ∷ plain_table
+table = (codes "ins", ins_row) ∷ (codes "run", run_row) ∷ (codes "raw", raw_row) ∷ (codes "raw2", raw2_row) ∷ plain_table
 
 -- what the row of this word reads
 abbrev pub row_in : List Row → List ℕ → List ℕ → Option Line

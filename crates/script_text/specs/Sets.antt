@@ -1,5 +1,5 @@
 -- Sets of members, spelled as in the line of `state`: a list of sites with their counts, and a list of undone names with their generations.
-use Rattle.std.specs.Prelude.{◌≡◌, ℕ, ◌+◌, ◌≤◌, Bool, true, ◌&&◌, ◌==◌, nat_le, List, [], ◌∷◌, codes, map, bytes_eq, Option, Some, None, unwrap_or, if◌then◌else◌}
+use Rattle.std.specs.Prelude.{◌≡◌, ℕ, ◌+◌, Bool, true, ◌&&◌, ◌==◌, nat_le, List, [], ◌∷◌, codes, map, bytes_eq, Option, Some, None, unwrap_or, if◌then◌else◌}
 use Rattle.std.specs.List.{slice_split}
 use Rattle.op_name.specs.NameData.{NameData, name_lt}
 use Rattle.op_name.specs.declared.name.TheConstants.{NUMBERS}

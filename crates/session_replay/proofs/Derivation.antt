@@ -90,6 +90,7 @@ module _ (view : State → View) (agrees : (s : State) → IsValid s.history →
   there_same (line.All i) d sound values within = refl
   there_same line.Sync d sound values within = refl
   there_same (line.Raw i bytes) d sound values within = refl
+  there_same (line.Raw2 i bytes) d sound values within = refl
   there_same (line.Show i) d sound values within = ap (λ (x : View). Ok (told (show_text_in (λ s. x) i d) d)) (seen_at d i sound within)
   there_same (line.State i) d sound values within = refl
 

@@ -429,7 +429,7 @@ synced_progress p k d steady count false due = record { steady = steady; count =
 pub progress : (p : Plan) → IsPlan p → (k : ℕ) → k ≤ p.events → Progress p k (generating p k).session
 unfolding generating
 progress p is zero within = record {
-  steady = open_new p.sites is.most_sites;
+  steady = open_new p.sites (omega (arith, is.most_sites));
   count = refl;
   known = λ e i less x at. absurd (contains_none x at);
 }

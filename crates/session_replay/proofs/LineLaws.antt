@@ -11,12 +11,12 @@ use Rattle.cot_site.proofs.CallerLemmas.{settled_none, local_run_next, local_del
 use Rattle.cot_site.specs.Sites.{AllFormed}
 use Rattle.cot_site.specs.Commands.{local_run, local_delete, local_undo, local_redo}
 use Rattle.site_answers.specs.declared.local.Local.{Local}
-use Rattle.wire_codec.specs.Causes.{cause_word}
 use Rattle.wire_codec.specs.Judging.{judge}
 use Rattle.wire_codec.specs.declared.fault.Refused.{Refused}
 use Rattle.wire_codec.specs.declared.fault.Refused.TheVariants.{More, Bad}
+use Rattle.wire_codec.specs.declared.version.Version.{Version}
+use Rattle.wire_codec.specs.declared.version.Version.TheVariants.{One, Two}
 use Rattle.wire_codec.proofs.CallerLemmas.{IsBytes, IsBytes-drop, judge_takes}
-use Rattle.script_text.specs.Report.{raw_more_text, raw_bad_text}
 use Rattle.script_text.specs.Verdicts.{local_text}
 use Rattle.script_text.specs.declared.reading.line.Line.{Line}
 use Rattle.script_text.specs.declared.reading.line.Line.TheVariants as line
@@ -25,7 +25,7 @@ use Rattle.script_text.specs.declared.report.refusal.Refusal.TheVariants.{NoSite
 use Rattle.script_text.specs.Lines.{line_site}
 use Rattle.session_replay.specs.Steps.{Step, last_of}
 use Rattle.session_replay.specs.Sessions.{SessionData, site_at, new_site, new_sites, opened, made, given, given_all, synced}
-use Rattle.session_replay.specs.LineSteps.{told, commanded, typed, typed_in, typed_on, framed, framed_on, given_message, once_started, at_site_of, opening, steps_there, line_steps, AreValues, show_text, have_text}
+use Rattle.session_replay.specs.LineSteps.{told, commanded, typed, typed_in, typed_on, framed, framed_on, raw_word, raw_steps, given_message, once_started, at_site_of, opening, steps_there, line_steps, AreValues, show_text, have_text}
 use Rattle.participant.specs.Runs.{letters, pieces}
 use Rattle.session_replay.specs.Events.{Opening}
 use Rattle.session_replay.specs.Soundness.{IsSound, AreSettled}
@@ -88,25 +88,30 @@ good_synced (suc m) n i within d kept =
     (good_all d.messages kept.sound.messages n i (omega (arith, within)) d kept)
     (subst (λ k. GoodNext k (synced (suc i) m)) (sym kept.sites) (good_synced m n (suc i) (omega (arith, within))))
 
-good_framed_on : (next : List ℕ → SessionData → List (Step SessionData)) (i : ℕ) (bytes : List ℕ) (r : Result (OpData × ℕ) Refused)
-    (d : SessionData) → IsSound d → i < length d.sites → ((o : OpData) (used : ℕ) → r ≡ Ok (o, used) → IsWellFormed o)
-    → ((k : ℕ) → GoodNext (length d.sites) (next (drop k bytes))) → Good d (framed_on next i bytes r d)
-good_framed_on next i bytes (Ok p) d sound within formed rest =
-    on_last d (given false i p.0 d) (next (drop p.1 bytes)) sound (good_given false d i p.0 sound within (formed p.0 p.1 refl)) (rest p.1)
-good_framed_on next i bytes (Err (More least)) d sound within formed rest = good_told (raw_more_text i least) d sound refl refl
-good_framed_on next i bytes (Err (Bad f)) d sound within formed rest =
-    good_told (raw_bad_text i (cause_word f.cause) f.offset) d sound refl refl
+-- what is told of bytes that begin with no frame
+good_refused : (v : Version) (w : List ℕ) (d : SessionData) → IsSound d → Good d (told (raw_word v ++ 32 ∷ w) d)
+good_refused One w d sound = good_told (raw_word One ++ 32 ∷ w) d sound refl refl
+good_refused Two w d sound = good_told (raw_word Two ++ 32 ∷ w) d sound refl refl
 
-good_framed : (m : ℕ) (bytes : List ℕ) → IsBytes bytes → (n i : ℕ) → i < n → GoodNext n (framed m i bytes)
+good_framed_on : (next : List ℕ → SessionData → List (Step SessionData)) (v : Version) (i : ℕ) (bytes : List ℕ)
+    (r : Result (OpData × ℕ) Refused) (d : SessionData) → IsSound d → i < length d.sites
+    → ((o : OpData) (used : ℕ) → r ≡ Ok (o, used) → IsWellFormed o)
+    → ((k : ℕ) → GoodNext (length d.sites) (next (drop k bytes))) → Good d (framed_on next v i bytes r d)
+good_framed_on next v i bytes (Ok p) d sound within formed rest =
+    on_last d (given false i p.0 d) (next (drop p.1 bytes)) sound (good_given false d i p.0 sound within (formed p.0 p.1 refl)) (rest p.1)
+good_framed_on next v i bytes (Err (More least)) d sound within formed rest = good_refused v _ d sound
+good_framed_on next v i bytes (Err (Bad f)) d sound within formed rest = good_refused v _ d sound
+
+good_framed : (v : Version) (m : ℕ) (bytes : List ℕ) → IsBytes bytes → (n i : ℕ) → i < n → GoodNext n (framed v m i bytes)
 unfolding framed
-good_framed m [] are n i within d kept = good_none d
-good_framed zero (b ∷ bytes) are n i within d kept = good_none d
-good_framed (suc m) (b ∷ bytes) are n i within d kept =
+good_framed v m [] are n i within d kept = good_none d
+good_framed v zero (b ∷ bytes) are n i within d kept = good_none d
+good_framed v (suc m) (b ∷ bytes) are n i within d kept =
     let here : i < length d.sites = subst (λ k. i < k) (sym kept.sites) within in
-    good_framed_on (framed m i) i (b ∷ bytes) (judge (b ∷ bytes)) d kept.sound here
-    (λ o used is. (judge_takes (b ∷ bytes) o used are is).well)
-    (λ k. subst (λ l. GoodNext l (framed m i (drop k (b ∷ bytes)))) (sym kept.sites)
-    (good_framed m (drop k (b ∷ bytes)) (IsBytes-drop k (b ∷ bytes) are) n i within))
+    good_framed_on (framed v m i) v i (b ∷ bytes) (judge v (b ∷ bytes)) d kept.sound here
+    (λ o used is. (judge_takes v (b ∷ bytes) o used are is).well)
+    (λ k. subst (λ l. GoodNext l (framed v m i (drop k (b ∷ bytes)))) (sym kept.sites)
+    (good_framed v m (drop k (b ∷ bytes)) (IsBytes-drop k (b ∷ bytes) are) n i within))
 
 -- ---- the first sites
 
@@ -234,6 +239,13 @@ good_message i m d es sound within is = from (slice_get d.messages m) refl is
     from (Some o) some e =
         good_lasts d (given false i o d) es e (good_given false d i o sound within (formed_at d.messages m o sound.messages some))
 
+-- a line of bytes
+raw_lasts : (v : Version) (i : ℕ) (bytes : List ℕ) (d : SessionData) (es : List (Step SessionData)) → IsSound d → IsBytes bytes
+    → i < length d.sites → ◌≡◌ {A = Result (List (Step SessionData)) Refusal} (Ok (raw_steps v i bytes d)) (Ok es) → Lasting d es
+raw_lasts v i bytes d es sound are within is =
+    good_lasts d (raw_steps v i bytes d) es is
+    (good_framed v (length bytes) bytes are (length d.sites) i within d (record { sound = sound; sites = refl }))
+
 there_lasts : (l : Line) (d : SessionData) (es : List (Step SessionData)) → IsSound d → AreValues l
     → IfSome (line_site l) (λ i. i < length d.sites) → steps_there l d ≡ Ok es → Lasting d es
 there_lasts line.Blank d es sound values within is = subst (Lasting d) (ok_steps [] es is) (nothing_lasts d)
@@ -268,9 +280,8 @@ there_lasts (line.All i) d es sound values within is =
 there_lasts line.Sync d es sound values within is =
     good_lasts d (synced 0 (length d.sites) d) es (started_ok d (Ok (synced 0 (length d.sites) d)) es is)
     (good_synced (length d.sites) (length d.sites) 0 (omega arith) d (record { sound = sound; sites = refl }))
-there_lasts (line.Raw i bytes) d es sound values within is =
-    good_lasts d (framed (length bytes) i bytes d) es is
-    (good_framed (length bytes) bytes values (length d.sites) i within d (record { sound = sound; sites = refl }))
+there_lasts (line.Raw i bytes) d es sound values within is = raw_lasts One i bytes d es sound values within is
+there_lasts (line.Raw2 i bytes) d es sound values within is = raw_lasts Two i bytes d es sound values within is
 there_lasts (line.Show i) d es sound values within is =
     good_lasts d (told (show_text i d) d) es is (good_told (show_text i d) d sound refl refl)
 there_lasts (line.State i) d es sound values within is =

@@ -11,7 +11,9 @@ use Rattle.cot_site.specs.Commands.{local_run}
 use Rattle.site_answers.specs.declared.local.Local.{Local}
 use Rattle.script_text.specs.Report.{raw_bad_text, raw_more_text}
 use Rattle.wire_codec.specs.Causes.{cause_word}
-use Rattle.wire_codec.specs.Judging.{judge, judged, longest, length_of}
+use Rattle.wire_codec.specs.Judging.{judge, judged, length_of}
+use Rattle.wire_codec.specs.Versions.{longest}
+use Rattle.wire_codec.specs.declared.version.Version.{Version}
 use Rattle.wire_codec.specs.declared.fault.Fault.{Fault}
 use Rattle.wire_codec.specs.declared.fault.Refused.{Refused}
 use Rattle.wire_codec.specs.declared.fault.Refused.TheVariants.{More, Bad}
@@ -20,12 +22,12 @@ use Rattle.session_replay.specs.Sessions.{SessionData, site_at, given, given_all
 use Rattle.session_replay.specs.Code.Doing.{frame_bytes}
 use Rattle.session_replay.specs.Code.Typing.{parts}
 use Rattle.session_replay.proofs.Typing.{parts_next, parts_none}
-use Rattle.session_replay.specs.LineSteps.{commanded, typed, typed_in, typed_on, framed, framed_on, told}
+use Rattle.session_replay.specs.LineSteps.{commanded, typed, typed_in, typed_on, framed, framed_on, raw_word, told}
 
--- the line of bytes that begin with no frame
-abbrev pub refused_frame : ℕ → Refused → List ℕ
-refused_frame i (More least) = raw_more_text i least
-refused_frame i (Bad f) = raw_bad_text i (cause_word f.cause) f.offset
+-- the line of bytes that begin with no frame of this version
+abbrev pub refused_frame : Version → ℕ → Refused → List ℕ
+refused_frame v i (More least) = raw_more_text (raw_word v) i least
+refused_frame v i (Bad f) = raw_bad_text (raw_word v) i (cause_word f.cause) f.offset
 
 -- ---- a text
 
@@ -185,136 +187,140 @@ used_of false false true x y z used r p e = absurd cc
 used_of false false false x y z used r p e = omega (arith, judged_used (4 + used) r p e)
 
 -- what is judged to be a frame has bytes
-used_some : (bytes : List ℕ) (p : OpData × ℕ) → judge bytes ≡ Ok p → 0 < p.1
+used_some : (v : Version) (bytes : List ℕ) (p : OpData × ℕ) → judge v bytes ≡ Ok p → 0 < p.1
 unfolding judge
-used_some bytes p e =
-    used_of (nat_lt (length bytes) 4) (nat_lt longest (length_of bytes)) (nat_lt (length bytes) (4 + length_of bytes)) _ _ _
+used_some v bytes p e =
+    used_of (nat_lt (length bytes) 4) (nat_lt (longest v) (length_of bytes)) (nat_lt (length bytes) (4 + length_of bytes)) _ _ _
     (length_of bytes) _ p e
 
 -- as many frames as bytes are enough
-framed_enough : (n m i : ℕ) (bytes : List ℕ) (d : SessionData) → length bytes ≤ n → length bytes ≤ m
-    → framed n i bytes d ≡ framed m i bytes d
+framed_enough : (v : Version) (n m i : ℕ) (bytes : List ℕ) (d : SessionData) → length bytes ≤ n → length bytes ≤ m
+    → framed v n i bytes d ≡ framed v m i bytes d
 unfolding framed
-framed_enough n m i [] d few less = both n m
+framed_enough v n m i [] d few less = both n m
   where
-    none : (k : ℕ) → framed k i [] d ≡ []
+    none : (k : ℕ) → framed v k i [] d ≡ []
     none zero = refl
     none (suc k) = refl
 
-    both : (k l : ℕ) → framed k i [] d ≡ framed l i [] d
+    both : (k l : ℕ) → framed v k i [] d ≡ framed v l i [] d
     both k l = none k ∙ sym (none l)
-framed_enough zero m i (b ∷ bs) d few less = absurd (omega (arith, few))
-framed_enough (suc n) zero i (b ∷ bs) d few less = absurd (omega (arith, less))
-framed_enough (suc n) (suc m) i (b ∷ bs) d few less = from (λ xs e k l. framed_enough n m i xs e k l) (judge (b ∷ bs)) refl
+framed_enough v zero m i (b ∷ bs) d few less = absurd (omega (arith, few))
+framed_enough v (suc n) zero i (b ∷ bs) d few less = absurd (omega (arith, less))
+framed_enough v (suc n) (suc m) i (b ∷ bs) d few less = from (λ xs e k l. framed_enough v n m i xs e k l) (judge v (b ∷ bs)) refl
   where
-    from : ((xs : List ℕ) (e : SessionData) → length xs ≤ n → length xs ≤ m → framed n i xs e ≡ framed m i xs e)
-        → (r : Result (OpData × ℕ) Refused) → judge (b ∷ bs) ≡ r
-        → framed_on (framed n i) i (b ∷ bs) r d ≡ framed_on (framed m i) i (b ∷ bs) r d
+    from : ((xs : List ℕ) (e : SessionData) → length xs ≤ n → length xs ≤ m → framed v n i xs e ≡ framed v m i xs e)
+        → (r : Result (OpData × ℕ) Refused) → judge v (b ∷ bs) ≡ r
+        → framed_on (framed v n i) v i (b ∷ bs) r d ≡ framed_on (framed v m i) v i (b ∷ bs) r d
     from again (Err (More least)) is = refl
     from again (Err (Bad f)) is = refl
     from again (Ok p) is =
-        let some = used_some (b ∷ bs) p is in
+        let some = used_some v (b ∷ bs) p is in
         let left : length (drop p.1 (b ∷ bs)) ≤ length bs = omega (arith, some, length-drop p.1 (b ∷ bs)) in
         ap (λ es. given false i p.0 d ++ es)
         (again (drop p.1 (b ∷ bs)) (last_of d (given false i p.0 d)) (omega (arith, left, few)) (omega (arith, left, less)))
 
-framed_is : (i : ℕ) (bytes : List ℕ) (d : SessionData) → 0 < length bytes
-    → (n : ℕ) × (length bytes ≡ suc n) × (framed (length bytes) i bytes d ≡ framed_on (framed n i) i bytes (judge bytes) d)
+framed_is : (v : Version) (i : ℕ) (bytes : List ℕ) (d : SessionData) → 0 < length bytes
+    → (n : ℕ) × (length bytes ≡ suc n) × (framed v (length bytes) i bytes d ≡ framed_on (framed v n i) v i bytes (judge v bytes) d)
 unfolding framed
-framed_is i [] d some = absurd (omega (arith, some))
-framed_is i (b ∷ bs) d some = (length bs, refl, refl)
+framed_is v i [] d some = absurd (omega (arith, some))
+framed_is v i (b ∷ bs) d some = (length bs, refl, refl)
 
-no_fuel : (i : ℕ) (bytes : List ℕ) (d : SessionData) → framed 0 i bytes d ≡ []
+no_fuel : (v : Version) (i : ℕ) (bytes : List ℕ) (d : SessionData) → framed v 0 i bytes d ≡ []
 unfolding framed
-no_fuel i [] d = refl
-no_fuel i (b ∷ bs) d = refl
+no_fuel v i [] d = refl
+no_fuel v i (b ∷ bs) d = refl
 
-one_is : (i : ℕ) (bytes : List ℕ) (d : SessionData) → 0 < length bytes → framed 1 i bytes d ≡ framed_on (framed 0 i) i bytes (judge bytes) d
+one_is : (v : Version) (i : ℕ) (bytes : List ℕ) (d : SessionData) → 0 < length bytes
+    → framed v 1 i bytes d ≡ framed_on (framed v 0 i) v i bytes (judge v bytes) d
 unfolding framed
-one_is i [] d some = absurd (omega (arith, some))
-one_is i (b ∷ bs) d some = refl
+one_is v i [] d some = absurd (omega (arith, some))
+one_is v i (b ∷ bs) d some = refl
 
 -- the first frame
-pub one_frame : (i : ℕ) (bytes : List ℕ) (d : SessionData) (o : OpData) (used : ℕ) → 0 < length bytes → Ok (o, used) ≡ judge bytes
-    → framed 1 i bytes d ≡ given false i o d
-one_frame i bytes d o used some is =
-    one_is i bytes d some
-    ∙ ap (λ r. framed_on (framed 0 i) i bytes r d) (sym is)
-    ∙ ap (λ es. given false i o d ++ es) (no_fuel i (drop used bytes) (last_of d (given false i o d)))
+pub one_frame : (v : Version) (i : ℕ) (bytes : List ℕ) (d : SessionData) (o : OpData) (used : ℕ) → 0 < length bytes
+    → Ok (o, used) ≡ judge v bytes
+    → framed v 1 i bytes d ≡ given false i o d
+one_frame v i bytes d o used some is =
+    one_is v i bytes d some
+    ∙ ap (λ r. framed_on (framed v 0 i) v i bytes r d) (sym is)
+    ∙ ap (λ es. given false i o d ++ es) (no_fuel v i (drop used bytes) (last_of d (given false i o d)))
     ∙ append-nil (given false i o d)
 
 -- no frame
-pub one_refused : (i : ℕ) (bytes : List ℕ) (d : SessionData) (r : Refused) → 0 < length bytes → Err r ≡ judge bytes
-    → framed 1 i bytes d ≡ told (refused_frame i r) d
-one_refused i bytes d (More least) some is = one_is i bytes d some ∙ ap (λ r. framed_on (framed 0 i) i bytes r d) (sym is)
-one_refused i bytes d (Bad f) some is = one_is i bytes d some ∙ ap (λ r. framed_on (framed 0 i) i bytes r d) (sym is)
+pub one_refused : (v : Version) (i : ℕ) (bytes : List ℕ) (d : SessionData) (r : Refused) → 0 < length bytes → Err r ≡ judge v bytes
+    → framed v 1 i bytes d ≡ told (refused_frame v i r) d
+one_refused v i bytes d (More least) some is = one_is v i bytes d some ∙ ap (λ r. framed_on (framed v 0 i) v i bytes r d) (sym is)
+one_refused v i bytes d (Bad f) some is = one_is v i bytes d some ∙ ap (λ r. framed_on (framed v 0 i) v i bytes r d) (sym is)
 
 -- the first frame, and those after it
-pub frames_on : (i : ℕ) (bytes : List ℕ) (d now : SessionData) (used : ℕ) → 0 < length bytes → Some used ≡ frame_bytes (judge bytes)
-    → now ≡ last_of d (framed 1 i bytes d)
-    → framed (length bytes) i bytes d ≡ framed 1 i bytes d ++ framed (length (drop used bytes)) i (drop used bytes) now
-frames_on i bytes d now used some is at = from (judge bytes) refl
+pub frames_on : (v : Version) (i : ℕ) (bytes : List ℕ) (d now : SessionData) (used : ℕ) → 0 < length bytes
+    → Some used ≡ frame_bytes (judge v bytes)
+    → now ≡ last_of d (framed v 1 i bytes d)
+    → framed v (length bytes) i bytes d ≡ framed v 1 i bytes d ++ framed v (length (drop used bytes)) i (drop used bytes) now
+frames_on v i bytes d now used some is at = from (judge v bytes) refl
   where
-    from : (r : Result (OpData × ℕ) Refused) → judge bytes ≡ r
-        → framed (length bytes) i bytes d ≡ framed 1 i bytes d ++ framed (length (drop used bytes)) i (drop used bytes) now
+    from : (r : Result (OpData × ℕ) Refused) → judge v bytes ≡ r
+        → framed v (length bytes) i bytes d ≡ framed v 1 i bytes d ++ framed v (length (drop used bytes)) i (drop used bytes) now
     from (Err r) e = absurd (none-some used (sym (is ∙ ap frame_bytes e)))
     from (Ok p) e =
         let both : Some used ≡ Some p.1 = is ∙ ap frame_bytes e in
         let same : used ≡ p.1 = cc in
-        let pair : Ok (p.0, used) ≡ judge bytes = ap (λ n. Ok (p.0, n)) same ∙ sym e in
-        let one = one_frame i bytes d p.0 used some pair in
-        let first = framed_is i bytes d some in
+        let pair : Ok (p.0, used) ≡ judge v bytes = ap (λ n. Ok (p.0, n)) same ∙ sym e in
+        let one = one_frame v i bytes d p.0 used some pair in
+        let first = framed_is v i bytes d some in
         let n = first.0 in
-        let begun = used_some bytes p e in
+        let begun = used_some v bytes p e in
         let left : length (drop used bytes) ≤ n = omega (arith, begun, same, first.1, length-drop used bytes) in
         let later : last_of d (given false i p.0 d) ≡ now = ap (last_of d) (sym one) ∙ sym at in
         first.2
-        ∙ ap (λ r. framed_on (framed n i) i bytes r d) (sym pair)
+        ∙ ap (λ r. framed_on (framed v n i) v i bytes r d) (sym pair)
         ∙ ap (λ es. given false i p.0 d ++ es)
-        (framed_enough n (length (drop used bytes)) i (drop used bytes) (last_of d (given false i p.0 d)) left (omega arith))
-        ∙ ap (λ x. given false i p.0 d ++ framed (length (drop used bytes)) i (drop used bytes) x) later
-        ∙ ap (λ es. es ++ framed (length (drop used bytes)) i (drop used bytes) now) (sym one)
+        (framed_enough v n (length (drop used bytes)) i (drop used bytes) (last_of d (given false i p.0 d)) left (omega arith))
+        ∙ ap (λ x. given false i p.0 d ++ framed v (length (drop used bytes)) i (drop used bytes) x) later
+        ∙ ap (λ es. es ++ framed v (length (drop used bytes)) i (drop used bytes) now) (sym one)
 
 -- nothing follows bytes that begin with no frame
-pub frames_end : (i : ℕ) (bytes : List ℕ) (d : SessionData) → 0 < length bytes → None ≡ frame_bytes (judge bytes)
-    → framed (length bytes) i bytes d ≡ framed 1 i bytes d ++ []
-frames_end i bytes d some is = from (judge bytes) refl
+pub frames_end : (v : Version) (i : ℕ) (bytes : List ℕ) (d : SessionData) → 0 < length bytes → None ≡ frame_bytes (judge v bytes)
+    → framed v (length bytes) i bytes d ≡ framed v 1 i bytes d ++ []
+frames_end v i bytes d some is = from (judge v bytes) refl
   where
-    from : (r : Result (OpData × ℕ) Refused) → judge bytes ≡ r → framed (length bytes) i bytes d ≡ framed 1 i bytes d ++ []
+    from : (r : Result (OpData × ℕ) Refused) → judge v bytes ≡ r → framed v (length bytes) i bytes d ≡ framed v 1 i bytes d ++ []
     from (Ok p) e = absurd (none-some p.1 (is ∙ ap frame_bytes e))
     from (Err (More least)) e =
-        let first = framed_is i bytes d some in
-        first.2 ∙ ap (λ r. framed_on (framed first.0 i) i bytes r d) e
-        ∙ sym (append-nil _ ∙ one_refused i bytes d (More least) some (sym e))
+        let first = framed_is v i bytes d some in
+        first.2 ∙ ap (λ r. framed_on (framed v first.0 i) v i bytes r d) e
+        ∙ sym (append-nil _ ∙ one_refused v i bytes d (More least) some (sym e))
     from (Err (Bad f)) e =
-        let first = framed_is i bytes d some in
-        first.2 ∙ ap (λ r. framed_on (framed first.0 i) i bytes r d) e ∙ sym (append-nil _ ∙ one_refused i bytes d (Bad f) some (sym e))
+        let first = framed_is v i bytes d some in
+        first.2 ∙ ap (λ r. framed_on (framed v first.0 i) v i bytes r d) e
+        ∙ sym (append-nil _ ∙ one_refused v i bytes d (Bad f) some (sym e))
 
 -- the first frame is the first part
-pub frames_part : (i : ℕ) (bytes : List ℕ) (d : SessionData) → 0 < length bytes
-    → (left : List (Step SessionData)) × (framed (length bytes) i bytes d ≡ framed 1 i bytes d ++ left)
-frames_part i bytes d some = from (frame_bytes (judge bytes)) refl
+pub frames_part : (v : Version) (i : ℕ) (bytes : List ℕ) (d : SessionData) → 0 < length bytes
+    → (left : List (Step SessionData)) × (framed v (length bytes) i bytes d ≡ framed v 1 i bytes d ++ left)
+frames_part v i bytes d some = from (frame_bytes (judge v bytes)) refl
   where
-    from : (r : Option ℕ) → frame_bytes (judge bytes) ≡ r
-        → (left : List (Step SessionData)) × (framed (length bytes) i bytes d ≡ framed 1 i bytes d ++ left)
-    from None e = ([], frames_end i bytes d some (sym e))
+    from : (r : Option ℕ) → frame_bytes (judge v bytes) ≡ r
+        → (left : List (Step SessionData)) × (framed v (length bytes) i bytes d ≡ framed v 1 i bytes d ++ left)
+    from None e = ([], frames_end v i bytes d some (sym e))
     from (Some used) e = (
-      framed (length (drop used bytes)) i (drop used bytes) (last_of d (framed 1 i bytes d)),
-      frames_on i bytes d (last_of d (framed 1 i bytes d)) used some (sym e) refl,
+      framed v (length (drop used bytes)) i (drop used bytes) (last_of d (framed v 1 i bytes d)),
+      frames_on v i bytes d (last_of d (framed v 1 i bytes d)) used some (sym e) refl,
     )
 
 -- a frame has bytes
-pub frame_begun : (bytes : List ℕ) (used : ℕ) → Some used ≡ frame_bytes (judge bytes) → 0 < used
-frame_begun bytes used is = from (judge bytes) refl
+pub frame_begun : (v : Version) (bytes : List ℕ) (used : ℕ) → Some used ≡ frame_bytes (judge v bytes) → 0 < used
+frame_begun v bytes used is = from (judge v bytes) refl
   where
-    from : (r : Result (OpData × ℕ) Refused) → judge bytes ≡ r → 0 < used
+    from : (r : Result (OpData × ℕ) Refused) → judge v bytes ≡ r → 0 < used
     from (Err r) e = absurd (none-some used (sym (is ∙ ap frame_bytes e)))
     from (Ok p) e =
         let both : Some used ≡ Some p.1 = is ∙ ap frame_bytes e in
         let same : used ≡ p.1 = cc in
-        omega (arith, used_some bytes p e)
+        omega (arith, used_some v bytes p e)
 
-pub framed_none : (i : ℕ) (bytes : List ℕ) (d : SessionData) → length bytes ≡ 0 → framed (length bytes) i bytes d ≡ []
+pub framed_none : (v : Version) (i : ℕ) (bytes : List ℕ) (d : SessionData) → length bytes ≡ 0 → framed v (length bytes) i bytes d ≡ []
 unfolding framed
-framed_none i [] d none = refl
-framed_none i (b ∷ bs) d none = absurd (omega (arith, none))
+framed_none v i [] d none = refl
+framed_none v i (b ∷ bs) d none = absurd (omega (arith, none))

@@ -1,5 +1,5 @@
 -- A line that has something to do has a step; so a line without one is never cut short.
-use Rattle.std.proofs.Common.{◌≡◌, ℕ, zero, suc, ◌+◌, ◌<◌, Bool, true, false, List, [], ◌∷◌, ◌++◌, length, sym, subst, ◌∙◌, arith}
+use Rattle.std.proofs.Common.{◌≡◌, ℕ, zero, suc, ◌+◌, ◌<◌, Bool, true, false, List, [], ◌∷◌, ◌++◌, length, sym, ap, subst, ◌∙◌, arith}
 use Rattle.std.specs.Prelude.{Option, Some, None, Result, Ok, Err, OnErr, nat_lt, nat_le, if◌then◌else◌}
 use Rattle.op_name.specs.declared.name.TheConstants.{SITES}
 use Rattle.context_diff.specs.Operations.{OpData}
@@ -8,6 +8,7 @@ use Rattle.cot_site.specs.Commands.{local_run}
 use Rattle.wire_codec.specs.Judging.{judge}
 use Rattle.wire_codec.specs.declared.fault.Refused.{Refused}
 use Rattle.wire_codec.specs.declared.fault.Refused.TheVariants.{More, Bad}
+use Rattle.wire_codec.specs.declared.version.Version.{Version}
 use Rattle.script_text.specs.declared.report.refusal.Refusal.{Refusal}
 use Rattle.script_text.specs.declared.report.refusal.Refusal.TheVariants.{NoSites, Twice, NoSite, NoMessage}
 use Rattle.script_text.specs.declared.reading.line.Line.{Line}
@@ -15,7 +16,7 @@ use Rattle.session_replay.specs.declared.session.StepBad.{StepBad}
 use Rattle.session_replay.specs.declared.session.StepBad.TheVariants.{Memory}
 use Rattle.session_replay.specs.Steps.{Step, last_of}
 use Rattle.session_replay.specs.Sessions.{SessionData, site_at, opened, given_all, synced}
-use Rattle.session_replay.specs.LineSteps.{told, commanded, typed, typed_on, framed, framed_on, given_message, opening, once_started, steps_there, typed_in}
+use Rattle.session_replay.specs.LineSteps.{told, commanded, typed, typed_on, framed, framed_on, raw_steps, given_message, opening, once_started, steps_there, typed_in}
 use Rattle.session_replay.specs.Answers.{IsDone, HasStep}
 use Rattle.session_replay.specs.Code.Doing.{IsLineDone, as_step}
 
@@ -50,12 +51,12 @@ synced_some i (suc n) d some messages =
     append_some (given_all i d.messages d) (synced (suc i) n (last_of d (given_all i d.messages d)))
     (given_all_some i d.messages d messages)
 
-pub framed_some : (i : ℕ) (bytes : List ℕ) (d : SessionData) → 0 < length bytes → HasStep (Ok (framed (length bytes) i bytes d))
+pub framed_some : (v : Version) (i : ℕ) (bytes : List ℕ) (d : SessionData) → 0 < length bytes → HasStep (Ok (raw_steps v i bytes d))
 unfolding framed
-framed_some i [] d some = absurd (omega (arith, some))
-framed_some i (b ∷ bs) d some = from (judge (b ∷ bs))
+framed_some v i [] d some = absurd (omega (arith, some))
+framed_some v i (b ∷ bs) d some = from (judge v (b ∷ bs))
   where
-    from : (r : Result (OpData × ℕ) Refused) → HasStep (Ok (framed_on (framed (length bs) i) i (b ∷ bs) r d))
+    from : (r : Result (OpData × ℕ) Refused) → HasStep (Ok (framed_on (framed v (length bs) i) v i (b ∷ bs) r d))
     from (Ok p) = tt
     from (Err (More least)) = tt
     from (Err (Bad f)) = tt
@@ -82,6 +83,15 @@ needed_by line this d is some = subst (λ l. HasStep (steps_there l d)) (sym is)
 pub as_needed : {T E : Type 0} {X : Type 0} (r : Result T E) (q : Result T StepBad) → q ≡ as_step r → OnErr r X → q ≡ Err Memory → X
 as_needed (Ok t) q is err memory = let both = sym is ∙ memory in absurd cc
 as_needed (Err e) q is err memory = err
+
+-- there was no memory for a line of bytes
+pub raw_needed : (v : Version) (line this : Line) (i : ℕ) (bytes list : List ℕ) (d : SessionData) {T E : Type 0} (r : Result T E)
+    (q : Result T StepBad) → line ≡ this → steps_there this d ≡ Ok (raw_steps v i bytes d) → list ≡ bytes → q ≡ as_step r
+    → OnErr r (0 < length list) → q ≡ Err Memory → HasStep (steps_there line d)
+raw_needed v line this i bytes list d r q is steps same step short memory =
+    let some = as_needed r q step short memory in
+    needed_by line this d is
+    (subst HasStep (sym steps) (framed_some v i bytes d (omega (arith, some, ap (λ (xs : List ℕ). length xs) same))))
 
 pub opening_needed : (n : ℕ) (d now : SessionData) (q : Result (Unit {0}) StepBad) → IsDone (opening n d) q d now → q ≡ Err Memory
     → HasStep (opening n d)

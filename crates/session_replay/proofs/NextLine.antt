@@ -2,7 +2,7 @@
 use Rattle.std.proofs.Common.{◌≡◌, ℕ, Bool, true, false, List, [], ◌∷◌, refl, sym, ap, subst, ◌∙◌, length}
 use Rattle.std.specs.Prelude.{Option, Some, None, IsSomeAnd, Result, Ok, Err, OnErr, nat_lt, if◌then◌else◌}
 use Rattle.script_text.specs.declared.reading.line.Line.{Line}
-use Rattle.script_text.specs.declared.reading.line.Line.TheVariants.{Ins, Run, Raw}
+use Rattle.script_text.specs.declared.reading.line.Line.TheVariants.{Ins, Run, Raw, Raw2}
 use Rattle.script_text.specs.declared.reading.line.LineBad.{LineBad}
 use Rattle.script_text.specs.declared.reading.line.LineBad.TheVariants as reading
 use Rattle.script_text.specs.declared.report.refusal.Refusal.{Refusal}
@@ -13,11 +13,12 @@ use Rattle.script_text.specs.Streams.{IsNext, Reads, TakesLine}
 use Rattle.script_text.specs.Answers.{line_in}
 use Rattle.script_text.proofs.CallerLemmas.{line_found}
 use Rattle.participant.specs.Runs.{letters, pieces}
+use Rattle.wire_codec.specs.declared.version.Version.TheVariants.{One, Two}
 use Rattle.session_replay.specs.declared.session.StepBad.{StepBad}
 use Rattle.session_replay.specs.declared.session.StepBad.TheVariants.{Memory}
 use Rattle.session_replay.specs.Steps.{Step}
 use Rattle.session_replay.specs.Sessions.{SessionData}
-use Rattle.session_replay.specs.LineSteps.{at_site_of, line_steps, typed, framed}
+use Rattle.session_replay.specs.LineSteps.{at_site_of, line_steps, typed, raw_steps}
 use Rattle.session_replay.specs.Answers.{IsDone, HasStep, unread_by}
 use Rattle.session_replay.specs.Scripts.{Whole, Past, steps_of_read, piece_steps}
 use Rattle.session_replay.specs.Readers.{DoesSomething, NextDoesSomething}
@@ -61,8 +62,9 @@ content_does (Run i v text) d content range =
     at_site_does i d (Ok (typed i v (pieces text) d))
     (step_does (Ok (typed i v (pieces text) d)) (typed_some i v (pieces text) d (pieces_some text range.2)))
 content_does (Raw i bytes) d content range =
-    at_site_does i d (Ok (framed (length bytes) i bytes d))
-    (step_does (Ok (framed (length bytes) i bytes d)) (framed_some i bytes d range.1))
+    at_site_does i d (Ok (raw_steps One i bytes d)) (step_does (Ok (raw_steps One i bytes d)) (framed_some One i bytes d range.1))
+content_does (Raw2 i bytes) d content range =
+    at_site_does i d (Ok (raw_steps Two i bytes d)) (step_does (Ok (raw_steps Two i bytes d)) (framed_some Two i bytes d range.1))
 content_does line d content range = absurd content
 
 -- ---- the next line

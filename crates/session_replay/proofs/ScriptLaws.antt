@@ -83,6 +83,7 @@ in_values (line.Give i m) range = tt
 in_values (line.All i) range = tt
 in_values line.Sync range = tt
 in_values (line.Raw i bytes) range = range.2
+in_values (line.Raw2 i bytes) range = range.2
 in_values (line.Show i) range = tt
 in_values (line.State i) range = tt
 

@@ -2,7 +2,7 @@
 use Rattle.std.proofs.Common.{◌≡◌, ℕ, zero, suc, ◌<◌, ◌≤◌, true, List, [], ◌∷◌, refl, ap, subst, length, take, drop, min, length-drop, arith}
 use Rattle.std.specs.Str.{all_scalars}
 use Rattle.std.proofs.lemmas.List.{length-take}
-use Rattle.context_diff.specs.declared.letters.TheConstants.{LETTERS}
+use Rattle.op_name.specs.declared.limits.TheConstants.{LETTERS}
 use Rattle.context_diff.specs.Operations.{IsLetters}
 use Rattle.participant.specs.Runs.{letters, cut, pieces}
 use Rattle.session_replay.specs.Code.Typing.{parts_of, parts}

@@ -1,6 +1,6 @@
 -- The steps of a line: what it does to a session. What is shown may be read in more than one way: a definition that looks at it
 -- says how by its first argument, the view that a site in each state has of its text.
-use Rattle.std.specs.Prelude.{ℕ, ◌+◌, zero, suc, false, IsTrue, List, [], ◌∷◌, length, drop, encode_utf8_all, slice_get, slice_index, ◌<◌, nat_lt, nat_le, Result, Ok, Err, Option, Some, None, if◌then◌else◌}
+use Rattle.std.specs.Prelude.{ℕ, ◌+◌, zero, suc, false, IsTrue, List, [], ◌∷◌, length, drop, encode_utf8_all, slice_get, slice_index, ◌<◌, nat_lt, nat_le, codes, Result, Ok, Err, Option, Some, None, if◌then◌else◌}
 use Rattle.std.specs.Str.{all_scalars}
 use Rattle.op_name.specs.declared.name.TheConstants.{SITES}
 use Rattle.context_diff.specs.Operations.{OpData}
@@ -14,13 +14,15 @@ use Rattle.wire_codec.specs.Judging.{judge}
 use Rattle.wire_codec.specs.declared.fault.Refused.{Refused}
 use Rattle.wire_codec.specs.declared.fault.Refused.TheVariants.{More, Bad}
 use Rattle.wire_codec.specs.Causes.{cause_word}
+use Rattle.wire_codec.specs.declared.version.Version.{Version}
+use Rattle.wire_codec.specs.declared.version.Version.TheVariants.{One, Two}
 use Rattle.script_text.specs.Report.{shown_text, state_text, raw_bad_text, raw_more_text}
 use Rattle.script_text.specs.Lines.{line_site}
 use Rattle.script_text.specs.Verdicts.{local_text}
 use Rattle.script_text.specs.declared.report.refusal.Refusal.{Refusal}
 use Rattle.script_text.specs.declared.report.refusal.Refusal.TheVariants.{NoSites, Twice, NoSite, NoMessage}
 use Rattle.script_text.specs.declared.reading.line.Line.{Line}
-use Rattle.script_text.specs.declared.reading.line.Line.TheVariants.{Blank, Sites, Ins, Run, Nl, Del, Undo, Redo, Give, All, Sync, Raw, Show, State}
+use Rattle.script_text.specs.declared.reading.line.Line.TheVariants.{Blank, Sites, Ins, Run, Nl, Del, Undo, Redo, Give, All, Sync, Raw, Raw2, Show, State}
 use Rattle.session_replay.specs.Steps.{Step, and_then}
 use Rattle.session_replay.specs.Sessions.{SessionData, site_at, opened, made, given, given_all, synced}
 
@@ -47,18 +49,27 @@ typed_in view i v (p ∷ ps) d = typed_on (typed_in view i (v + length p) ps) i 
 abbrev pub typed : ℕ → ℕ → List (List ℕ) → SessionData → List (Step SessionData)
 typed i v ps d = typed_in history_view i v ps d
 
--- what bytes of `raw` begin with: a frame is delivered, and what follows it goes on; bytes that begin with none are reported
-abbrev pub framed_on : (List ℕ → SessionData → List (Step SessionData)) → ℕ → List ℕ → Result (OpData × ℕ) Refused → SessionData
-    → List (Step SessionData)
-framed_on next i bytes (Ok p) d = and_then d (given false i p.0 d) (next (drop p.1 bytes))
-framed_on next i bytes (Err (More least)) d = told (raw_more_text i least) d
-framed_on next i bytes (Err (Bad f)) d = told (raw_bad_text i (cause_word f.cause) f.offset) d
+-- the word of the line whose bytes are frames of this version
+abbrev pub raw_word : Version → List ℕ
+raw_word One = codes "raw"
+raw_word Two = codes "raw2"
 
--- bytes of `raw`, of which each frame has one at least: at most n frames
-unfoldable pub framed : ℕ → ℕ → List ℕ → SessionData → List (Step SessionData)
-framed n i [] d = []
-framed zero i (b ∷ bytes) d = []
-framed (suc n) i (b ∷ bytes) d = framed_on (framed n i) i (b ∷ bytes) (judge (b ∷ bytes)) d
+-- what the bytes of such a line begin with: a frame is delivered, and what follows it goes on; bytes that begin with none are reported
+abbrev pub framed_on : (List ℕ → SessionData → List (Step SessionData)) → Version → ℕ → List ℕ → Result (OpData × ℕ) Refused
+    → SessionData → List (Step SessionData)
+framed_on next v i bytes (Ok p) d = and_then d (given false i p.0 d) (next (drop p.1 bytes))
+framed_on next v i bytes (Err (More least)) d = told (raw_more_text (raw_word v) i least) d
+framed_on next v i bytes (Err (Bad f)) d = told (raw_bad_text (raw_word v) i (cause_word f.cause) f.offset) d
+
+-- the bytes of such a line, of which each frame has one at least: at most n frames
+unfoldable pub framed : Version → ℕ → ℕ → List ℕ → SessionData → List (Step SessionData)
+framed v n i [] d = []
+framed v zero i (b ∷ bytes) d = []
+framed v (suc n) i (b ∷ bytes) d = framed_on (framed v n i) v i (b ∷ bytes) (judge v (b ∷ bytes)) d
+
+-- all frames of the bytes, delivered to the site one after the other
+abbrev pub raw_steps : Version → ℕ → List ℕ → SessionData → List (Step SessionData)
+raw_steps v i bytes d = framed v (length bytes) i bytes d
 
 -- the lines of a shown text
 abbrev pub show_text_in : (SiteState → View) → ℕ → SessionData → List ℕ
@@ -103,7 +114,8 @@ steps_there_in view (Redo i t) d = Ok (commanded i (local_redo (site_at d i) t) 
 steps_there_in view (Give i m) d = given_message i (slice_get d.messages m) d
 steps_there_in view (All i) d = Ok (given_all i d.messages d)
 steps_there_in view Sync d = once_started d (Ok (synced 0 (length d.sites) d))
-steps_there_in view (Raw i bytes) d = Ok (framed (length bytes) i bytes d)
+steps_there_in view (Raw i bytes) d = Ok (raw_steps One i bytes d)
+steps_there_in view (Raw2 i bytes) d = Ok (raw_steps Two i bytes d)
 steps_there_in view (Show i) d = Ok (told (show_text_in view i d) d)
 steps_there_in view (State i) d = Ok (told (have_text i d) d)
 
@@ -133,5 +145,6 @@ AreValues (Give i m) = Unit {0}
 AreValues (All i) = Unit {0}
 AreValues Sync = Unit {0}
 AreValues (Raw i bytes) = (k : ℕ) → slice_index bytes k < 256
+AreValues (Raw2 i bytes) = (k : ℕ) → slice_index bytes k < 256
 AreValues (Show i) = Unit {0}
 AreValues (State i) = Unit {0}

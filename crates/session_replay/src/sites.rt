@@ -18,13 +18,14 @@ ghost use Rattle.script_text.specs.declared.reading.line.Line.TheVariants.{Sync}
 use crate::generated::Generated;
 use crate::message::Message;
 use crate::session::StepBad;
-use context_diff::{LETTERS, Letters};
+use context_diff::Letters;
 use cot_site::{Release, Site};
-use op_name::{Memory, SITES};
+use op_name::{LETTERS, Memory, SITES};
 use participant::Edit;
 use script_text::Line;
 use std::alloc::Global;
 use std::marker::Model;
+use wire_codec::Version;
 
 mod commands;
 mod deliveries;
@@ -176,7 +177,12 @@ impl Sites {
             Line::Give { site, message } => self.give(*site as usize, *message, out),
             Line::All { site } => done(self.give_all(*site as usize, out)),
             Line::Sync => self.sync_started(out),
-            Line::Raw { site, bytes } => done(self.give_frames(*site, bytes.as_slice(), out)),
+            Line::Raw { site, bytes } => {
+                done(self.give_frames(Version::One, *site, bytes.as_slice(), out))
+            }
+            Line::Raw2 { site, bytes } => {
+                done(self.give_frames(Version::Two, *site, bytes.as_slice(), out))
+            }
             Line::Show { site } => done(self.show(*site as usize, out)),
             Line::State { site } => done(self.show_state(*site, out)),
         }
@@ -292,7 +298,7 @@ fn check_values(line: &Line)
 {
     match line {
         Line::Ins { text, .. } | Line::Run { text, .. } => are_characters(text.as_slice()),
-        Line::Raw { bytes, .. } => are_bytes(bytes.as_slice()),
+        Line::Raw { bytes, .. } | Line::Raw2 { bytes, .. } => are_bytes(bytes.as_slice()),
         Line::Blank
         | Line::Sites { .. }
         | Line::Nl { .. }

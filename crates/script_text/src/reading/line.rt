@@ -7,13 +7,13 @@ use crate::reading::chars::Chars;
 use crate::reading::octets::Octets;
 use op_name::Name;
 
-/// What a line of a script says. A site is 0 to 63; a place counts shown characters, a message is the number
+/// What a line of a script says. A site is 0 to 1,023; a place counts shown characters, a message is the number
 /// of a message, both 0 to 4,294,967,295.
 #[derive(Debug, Drop)]
 pub enum Line {
     /// Nothing: the line is empty or starts with `#`.
     Blank,
-    /// `sites N`: makes sites 0 to `count - 1`; the count is 1 to 64.
+    /// `sites N`: makes sites 0 to `count - 1`; the count is 1 to 1,024.
     Sites { count: u16 },
     /// `ins S V TEXT`: inserts each character at the site, at visible places `place`, `place + 1` and so on.
     Ins { site: u16, place: u32, text: Chars },
@@ -34,8 +34,10 @@ pub enum Line {
     All { site: u16 },
     /// `sync`: does `all` for each site, rising.
     Sync,
-    /// `raw S HEX`: decodes frame after frame from the bytes, of which there is one at least, and delivers each.
+    /// `raw S HEX`: decodes frame after frame of version 1 from the bytes, of which there is one at least, and delivers each.
     Raw { site: u16, bytes: Octets },
+    /// `raw2 S HEX`: the same of version 2.
+    Raw2 { site: u16, bytes: Octets },
     /// `show S`: shows the text.
     Show { site: u16 },
     /// `state S`: shows the members and the number waiting.
@@ -58,6 +60,7 @@ impl Line {
             | Line::Give { site, .. }
             | Line::All { site }
             | Line::Raw { site, .. }
+            | Line::Raw2 { site, .. }
             | Line::Show { site }
             | Line::State { site } => Some(*site),
         }

@@ -8,7 +8,7 @@ use hex::FromHexError;
 use std::alloc::Global;
 use std::marker::Model;
 
-/// The bytes of a `raw` line, in their order.
+/// The bytes of a line `raw` or `raw2`, in their order.
 #[derive(Debug, Drop)]
 pub struct Octets {
     list: Vec<u8>,

@@ -18,7 +18,7 @@ pub const LONGEST: usize = 262_144;
 ///
 /// A line is spelled in one way: its word, then its fields, with exactly one blank before each; a number is `0`
 /// or decimal digits that don't start with 0; a text is all that is left of the line. Only the hexadecimal digits
-/// of `raw`, which are of either case, and lines that do nothing have several spellings.
+/// of `raw` and `raw2`, which are of either case, and lines that do nothing have several spellings.
 pub fn parse_line(alloc: Global, bytes: &[u8]) -> Result<Line, LineBad>
     ensures exact { Answers bytes.now result }
 

@@ -2,8 +2,8 @@
 
 ghost use Rattle.std.specs.Prelude.{◌≡◌, Some, None, MatchOption, chars, ℕ};
 ghost use Rattle.script_text.specs.Fields.{pair_by, site_of, number_of, text_of, name_of, octets_of};
-ghost use Rattle.script_text.specs.Rows.{sites_row, ins_row, run_row, nl_row, del_row, undo_row, redo_row, give_row, all_row, raw_row, show_row, state_row, plain_table, table, row_in};
-ghost use Rattle.script_text.specs.Answers.{LineAnswers};
+ghost use Rattle.script_text.specs.Rows.{sites_row, ins_row, run_row, nl_row, del_row, undo_row, redo_row, give_row, all_row, raw_row, raw2_row, show_row, state_row, plain_table, table, row_in};
+ghost use Rattle.script_text.specs.Answers.{FormAnswers, LineAnswers};
 
 use crate::reading::chars::Chars;
 use crate::reading::field::{characters, count, cut_at_blank, name, number, site};
@@ -20,6 +20,7 @@ pub(crate) fn row(alloc: Global, word: &str, fields: &str) -> Result<Line, LineB
         "ins" => ins_line(alloc, fields),
         "run" => run_line(alloc, fields),
         "raw" => raw_line(alloc, fields),
+        "raw2" => raw2_line(alloc, fields),
         _ => match plain_row(word, fields) {
             Some(line) => Ok(line),
             None => Err(LineBad::Form),
@@ -75,11 +76,18 @@ fn run_line(alloc: Global, fields: &str) -> Result<Line, LineBad>
 fn raw_line(alloc: Global, fields: &str) -> Result<Line, LineBad>
     ensures { LineAnswers result (raw_row fields.now) }
 {
-    let Some((site, hex)) = site_and_rest(fields) else {
-        return Err(LineBad::Form);
-    };
-    match Octets::of_hex(alloc, hex) {
-        Ok(bytes) => Ok(Line::Raw { site, bytes }),
+    match site_and_octets(alloc, fields) {
+        Ok((site, bytes)) => Ok(Line::Raw { site, bytes }),
+        Err(why) => Err(why),
+    }
+}
+
+#[tactic(auto, unfolding(crate::specs::Rows::raw2_row))]
+fn raw2_line(alloc: Global, fields: &str) -> Result<Line, LineBad>
+    ensures { LineAnswers result (raw2_row fields.now) }
+{
+    match site_and_octets(alloc, fields) {
+        Ok((site, bytes)) => Ok(Line::Raw2 { site, bytes }),
         Err(why) => Err(why),
     }
 }
@@ -170,22 +178,37 @@ fn site_and_name(fields: &str) -> Option<(u16, Name)>
     Some((site(first)?, name(second)?))
 }
 
+fn site_and_octets(alloc: Global, fields: &str) -> Result<(u16, Octets), LineBad>
+    ensures { FormAnswers result (pair_by 32 site_of octets_of fields.now) }
+{
+    let Some((site, hex)) = site_and_rest(fields) else {
+        return Err(LineBad::Form);
+    };
+    match Octets::of_hex(alloc, hex) {
+        Ok(bytes) => Ok((site, bytes)),
+        Err(why) => Err(why),
+    }
+}
+
 fn site_and_rest(fields: &str) -> Option<(u16, &str)>
-    ensures { MatchOption result (pair_by 32 site_of Some fields.now ≡ None) (λ p. pair_by 32 site_of Some fields.now ≡ Some (p.0, p.1.now)) }
+    ensures { MatchOption result (pair_by 32 site_of Some fields.now ≡ None)
+        (λ p. pair_by 32 site_of Some fields.now ≡ Some (p.0, p.1.now)) }
 {
     let (first, second) = cut_at_blank(fields)?;
     Some((site(first)?, second))
 }
 
 fn place_and_text(fields: &str) -> Option<(u32, &str)>
-    ensures { MatchOption result (pair_by 32 number_of text_of fields.now ≡ None) (λ p. pair_by 32 number_of text_of fields.now ≡ Some (p.0, chars p.1.now)) }
+    ensures { MatchOption result (pair_by 32 number_of text_of fields.now ≡ None)
+        (λ p. pair_by 32 number_of text_of fields.now ≡ Some (p.0, chars p.1.now)) }
 {
     let (place, text) = cut_at_blank(fields)?;
     Some((number(place)?, characters(text)?))
 }
 
 fn site_place_and_text(fields: &str) -> Option<(u16, u32, &str)>
-    ensures { MatchOption result (pair_by 32 site_of (pair_by 32 number_of text_of) fields.now ≡ None) (λ p. pair_by 32 site_of (pair_by 32 number_of text_of) fields.now ≡ Some (p.0, (p.1, chars p.2.now))) }
+    ensures { MatchOption result (pair_by 32 site_of (pair_by 32 number_of text_of) fields.now ≡ None)
+        (λ p. pair_by 32 site_of (pair_by 32 number_of text_of) fields.now ≡ Some (p.0, (p.1, chars p.2.now))) }
 {
     let (first, second) = cut_at_blank(fields)?;
     let site = site(first)?;

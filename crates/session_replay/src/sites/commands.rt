@@ -2,7 +2,7 @@
 
 ghost use Rattle.std.specs.Prelude.{◌≡◌, ◌≢◌, ◌++◌, ◌+◌, ◌<◌, ◌≤◌, true, IfOk, OnOk, OnErr, length, vec_len, vec_capacity};
 ghost use Rattle.std.specs.Result.{is_ok};
-ghost use Rattle.context_diff.specs.declared.letters.TheConstants.{LETTERS};
+ghost use Rattle.op_name.specs.declared.limits.TheConstants.{LETTERS};
 ghost use Rattle.context_diff.specs.declared.op.TheConstants.{PLACES};
 ghost use Rattle.cot_site.specs.Commands.{local_run};
 ghost use Rattle.participant.specs.Edits.{made_by};

@@ -1,4 +1,4 @@
-use Rattle.std.proofs.Common.{◌≡◌, ◌+◌, ◌≤◌, ℕ, List, [], ◌∷◌, ◌++◌, ap, ap₂, sym, subst, ◌∙◌, arith, leb-true}
+use Rattle.std.proofs.Common.{◌≡◌, ◌+◌, ℕ, List, [], ◌∷◌, ◌++◌, ap, ap₂, sym, subst, ◌∙◌, arith, leb-true}
 use Rattle.context_vector.specs.Contexts.{ContextData}
 use Rattle.context_vector.specs.Vectors.{SitesBelow}
 use Rattle.script_text.specs.Sets.{counts_of, site_count_of, comes_from, rising_counts}

@@ -1,14 +1,15 @@
 use Rattle.std.proofs.Common.{List, ℕ, Ok, refl, ap, sym, subst, ◌∙◌, length, arith}
 use Rattle.cot_site.specs.Commands.{local_run}
-use Rattle.context_diff.specs.declared.letters.TheConstants.{LETTERS}
+use Rattle.op_name.specs.declared.limits.TheConstants.{LETTERS}
 use Rattle.participant.specs.Runs.{letters, pieces}
-use Rattle.script_text.specs.declared.reading.line.Line.TheVariants.{Ins, Run, Nl, All, Raw, Show, State}
+use Rattle.script_text.specs.declared.reading.line.Line.TheVariants.{Ins, Run, Nl, All, Raw, Raw2, Show, State}
+use Rattle.wire_codec.specs.declared.version.Version.TheVariants.{One, Two}
 use Rattle.session_replay.specs.LineSteps.{commanded, typed, show_text, have_text}
 use Rattle.session_replay.specs.Sessions.{site_at}
 use Rattle.session_replay.specs.Code.Doing.{IsLineDone}
 use Rattle.session_replay.specs.Code.Typing.{parts}
 use Rattle.session_replay.proofs.Typing.{parts_letters, parts_pieces, letters_some, pieces_some}
-use Rattle.session_replay.proofs.Needed.{needed_by, as_needed, typed_some, given_all_some, framed_some}
+use Rattle.session_replay.proofs.Needed.{needed_by, as_needed, typed_some, given_all_some, raw_needed}
 use Rattle.session_replay.proofs.Lines.{blank_answer, sites_answer, line_is, steps_answer, told_answer}
 use Rattle.session_replay.proofs.sites.Sites.do_there.Goals as goal
 
@@ -92,8 +93,12 @@ returns-in-All-clause-needed c = λ memory.
     (as_needed c.give_all.result c.done-in-All.result c.done-in-All.ensures c.give_all.ensures.needed memory))
 
 pub returns-in-Raw-clause-needed : goal.returns-in-Raw-clause-needed
-returns-in-Raw-clause-needed c = λ memory.
-    let some = as_needed c.give_frames.result c.done-in-Raw.result c.done-in-Raw.ensures c.give_frames.ensures.needed memory in
-    needed_by c.args.line.now (Raw c.in-Raw.site c.in-Raw.bytes) c.args.self.now c.in-Raw.is
-    (framed_some c.in-Raw.site c.in-Raw.bytes c.args.self.now
-    (omega (arith, some, ap (λ (xs : List ℕ). length xs) c.as_slice-in-Raw.ensures)))
+returns-in-Raw-clause-needed c =
+    raw_needed One c.args.line.now (Raw c.in-Raw.site c.in-Raw.bytes) c.in-Raw.site c.in-Raw.bytes _ c.args.self.now c.give_frames.result
+    c.done-in-Raw.result c.in-Raw.is refl c.as_slice-in-Raw.ensures c.done-in-Raw.ensures c.give_frames.ensures.needed
+
+pub returns-in-Raw2-clause-needed : goal.returns-in-Raw2-clause-needed
+returns-in-Raw2-clause-needed c =
+    raw_needed Two c.args.line.now (Raw2 c.in-Raw2.site c.in-Raw2.bytes) c.in-Raw2.site c.in-Raw2.bytes _ c.args.self.now
+    c.give_frames-in-Raw2.result c.done-in-Raw2.result c.in-Raw2.is refl c.as_slice-in-Raw2.ensures c.done-in-Raw2.ensures
+    c.give_frames-in-Raw2.ensures.needed

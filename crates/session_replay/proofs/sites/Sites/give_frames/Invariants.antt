@@ -1,13 +1,13 @@
 use Rattle.std.proofs.Common.{◌≡◌, ◌≤◌, length}
-use Rattle.session_replay.specs.LineSteps.{framed}
+use Rattle.session_replay.specs.LineSteps.{raw_steps}
 use Rattle.session_replay.proofs.Steps.{IsAlong}
 use Rattle.session_replay.proofs.sites.Sites.give_frames.Given as goal
 
 -- the frames of the rest are left
 abbrev pub invariant-loop-rest : goal.invariant-loop-rest
 invariant-loop-rest l = record {
-  along : IsAlong (framed (length l.bytes) l.site l.bytes l.fn.self) l.fn.self l.fn.out.items (framed (length l.rest) l.site l.rest l.self)
-      l.self l.out.items;
+  along : IsAlong (raw_steps l.version l.site l.bytes l.fn.self) l.fn.self l.fn.out.items (raw_steps l.version l.site l.rest l.self) l.self
+      l.out.items;
   sites : length l.self.sites ≡ length l.fn.self.sites;
   shorter : length l.rest ≤ length l.bytes;
 }

@@ -1,6 +1,5 @@
 use Rattle.std.proofs.Common.{◌≡◌, Bor, List, ℕ, sym, ap, ◌∙◌, option_map}
-use Rattle.std.specs.Prelude.{Option, Some, None}
-use Rattle.script_text.specs.Fields.{cut}
+use Rattle.std.specs.Prelude.{Option, Some}
 use Rattle.script_text.specs.Code.Items.{left_items}
 use Rattle.script_text.proofs.SetLaws.{split_cut, split_uncut}
 use Rattle.script_text.proofs.reading.items.Items.next.Goals as goal
