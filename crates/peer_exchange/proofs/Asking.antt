@@ -8,13 +8,15 @@ use Rattle.std.proofs.lemmas.List.{length-append, length-drop, take-append-drop,
 use Rattle.std.proofs.lemmas.Nat.{from_be_bytes-to_be_bytes_4}
 use Rattle.context_vector.specs.Contexts.{ContextData}
 use Rattle.context_diff.specs.Operations.{OpData}
+use Rattle.wire_codec.specs.declared.version.Version.TheVariants.{Two}
 use Rattle.wire_codec.specs.declared.fault.Fault.{Fault}
 use Rattle.wire_codec.specs.declared.fault.Refused.{Refused}
 use Rattle.wire_codec.specs.declared.fault.Refused.TheVariants.{More, Bad}
 use Rattle.wire_codec.specs.Spelling.{body_bytes, frame}
 use Rattle.wire_codec.specs.Reading.{left_at, fault}
 use Rattle.wire_codec.specs.declared.cause.Cause.TheVariants.{TooLong}
-use Rattle.wire_codec.specs.Judging.{longest, body_at, judged, judge, length_of}
+use Rattle.wire_codec.specs.Versions.{longest}
+use Rattle.wire_codec.specs.Judging.{body_at, judged, judge, length_of}
 use Rattle.wire_codec.specs.Answers.{scan_of}
 use Rattle.wire_codec.specs.declared.fault.Unread.{Unread}
 use Rattle.wire_codec.specs.declared.fault.Unread.TheVariants as unread
@@ -36,13 +38,13 @@ use Rattle.peer_exchange.proofs.Staying.{is_there, first_no, first_yes, by_false
 use Rattle.peer_exchange.proofs.Going.{enough}
 
 -- the frame that bytes begin with is as long as its first four bytes say
-used_is : (bytes : List ℕ) (o : OpData) (used : ℕ) → IsBytes bytes → judge bytes ≡ Ok (o, used) → used ≡ 4 + length_of bytes
+used_is : (bytes : List ℕ) (o : OpData) (used : ℕ) → IsBytes bytes → judge Two bytes ≡ Ok (o, used) → used ≡ 4 + length_of bytes
 used_is bytes o used fits e =
-    let is = judge_takes bytes o used fits e in
-    let short = body_short o is.well.in_range in
-    let n = length (body_bytes o) in
+    let is = judge_takes Two bytes o used fits e in
+    let short = body_short Two o is.well.in_range is.fits in
+    let n = length (body_bytes Two o) in
     let size : length_of bytes ≡ n = ap length_of is.parts ∙ from_be_bytes-to_be_bytes_4 n (omega (arith, short)) in
-    let long : length (frame o) ≡ 4 + n = omega arith in
+    let long : length (frame Two o) ≡ 4 + n = omega arith in
     omega (arith, is.size, size, long)
 
 -- a part of so many bytes, or nothing known
@@ -113,32 +115,32 @@ judged_says : (used m : ℕ) (r : Result OpData Fault) → judged used r ≡ Err
 judged_says used m (Ok o) e = cc
 judged_says used m (Err f) e = cc
 
-more_is : (bytes : List ℕ) (m : ℕ) → 4 ≤ length bytes → judge bytes ≡ Err (More m) → m ≡ 4 + length_of bytes
+more_is : (bytes : List ℕ) (m : ℕ) → 4 ≤ length bytes → judge Two bytes ≡ Err (More m) → m ≡ 4 + length_of bytes
 unfolding judge
 more_is bytes m long e =
     let size = length_of bytes in
-    let body = judged (4 + size) (body_at (left_at 4 (take size (drop 4 bytes)))) in
+    let body = judged (4 + size) (body_at Two (left_at 4 (take size (drop 4 bytes)))) in
     let last = cond (ltb (length bytes) (4 + size)) (Err (More (4 + size))) body in
-    elim (cond_err (ltb (length bytes) 4) (More 4) (More m) (cond (ltb longest size) (Err (Bad (fault TooLong 0))) last) e) [
+    elim (cond_err (ltb (length bytes) 4) (More 4) (More m) (cond (ltb (longest Two) size) (Err (Bad (fault TooLong 0))) last) e) [
       | inl few ↦ let less = ltb-true _ _ few.0 in absurd (omega (arith, less, long))
-      | inr e1 ↦ elim (cond_err (ltb longest size) (Bad (fault TooLong 0)) (More m) last e1.1) [
+      | inr e1 ↦ elim (cond_err (ltb (longest Two) size) (Bad (fault TooLong 0)) (More m) last e1.1) [
         | inl bad ↦ let no = bad.1 in cc
         | inr e2 ↦ elim (cond_err (ltb (length bytes) (4 + size)) (More (4 + size)) (More m) body e2.1) [
           | inl is ↦ let same = is.1 in let out : 4 + size ≡ m = cc in omega (arith, out)
-          | inr e3 ↦ absurd (judged_says (4 + size) m (body_at (left_at 4 (take size (drop 4 bytes)))) e3.1)
+          | inr e3 ↦ absurd (judged_says (4 + size) m (body_at Two (left_at 4 (take size (drop 4 bytes)))) e3.1)
         ]
       ]
     ]
 
 -- bytes that end no later than the frame that they begin with
-framed_ends : (all : List ℕ) → IsBytes all → length all ≤ 4 + length_of all → EndsAt (length all) (framed (scan_of (judge all)))
-framed_ends all fits few = go (judge all) refl
+framed_ends : (all : List ℕ) → IsBytes all → length all ≤ 4 + length_of all → EndsAt (length all) (framed (scan_of (judge Two all)))
+framed_ends all fits few = go (judge Two all) refl
   where
-    go : (j : Result (OpData × ℕ) Refused) → judge all ≡ j → EndsAt (length all) (framed (scan_of j))
+    go : (j : Result (OpData × ℕ) Refused) → judge Two all ≡ j → EndsAt (length all) (framed (scan_of j))
     go (Ok x) e =
-        let is = judge_takes all x.0 x.1 fits e in
-        let total : length all ≡ length (frame x.0) + length (drop x.1 all) =
-        ap length is.parts ∙ length-append (frame x.0) (drop x.1 all) in
+        let is = judge_takes Two all x.0 x.1 fits e in
+        let total : length all ≡ length (frame Two x.0) + length (drop x.1 all) =
+        ap length is.parts ∙ length-append (frame Two x.0) (drop x.1 all) in
         omega (arith, few, used_is all x.0 x.1 fits e, is.size, total)
     go (Err (More n)) e = tt
     go (Err (Bad f)) e = tt
@@ -156,17 +158,17 @@ frames_end bytes tail m fits e within =
       | inl few ↦
           let four : part.More 4 ≡ part.More m =
           sym (by_true (ltb (length bytes) 4) (part.More 4) (cond (eqb (length_of bytes) 0) (part.Whole 4)
-          (framed (scan_of (judge bytes)))) few) ∙ e in
+          (framed (scan_of (judge Two bytes)))) few) ∙ e in
           let is : 4 ≡ m = cc in
           front all fits (omega (arith, within, is))
       | inr ready ↦
           let long = ltb-false _ _ ready in
-          let second : cond (eqb (length_of bytes) 0) (part.Whole 4) (framed (scan_of (judge bytes))) ≡ part.More m =
+          let second : cond (eqb (length_of bytes) 0) (part.Whole 4) (framed (scan_of (judge Two bytes))) ≡ part.More m =
           sym (by_false (ltb (length bytes) 4) (part.More 4) (cond (eqb (length_of bytes) 0) (part.Whole 4)
-          (framed (scan_of (judge bytes)))) ready) ∙ e in
+          (framed (scan_of (judge Two bytes)))) ready) ∙ e in
           let third =
-          first_no (eqb (length_of bytes) 0) (part.Whole 4) (framed (scan_of (judge bytes))) (part.More m) second (λ other. cc) in
-          let is = more_is bytes m long (framed_more (judge bytes) m third.1) in
+          first_no (eqb (length_of bytes) 0) (part.Whole 4) (framed (scan_of (judge Two bytes))) (part.More m) second (λ other. cc) in
+          let is = more_is bytes m long (framed_more (judge Two bytes) m third.1) in
           let same : length_of all ≡ length_of bytes = ap (λ (t : List ℕ). from_be_bytes w32 t) (take-append-le 4 bytes tail long) in
           let more : ltb (length all) 4 ≡ false = le-ltb _ _ (omega (arith, long, length-append bytes tail)) in
           let not_end : eqb (length_of all) 0 ≡ false = ap (λ (n : ℕ). eqb n 0) same ∙ third.0 in
@@ -287,7 +289,7 @@ head_asks frames bytes m e =
 
 frame_asks : (bytes : List ℕ) (m : ℕ) → frame_piece bytes ≡ part.More m → length bytes < m
 frame_asks bytes m e =
-    let last = cond (eqb (length_of bytes) 0) (part.Whole 4) (framed (scan_of (judge bytes))) in
+    let last = cond (eqb (length_of bytes) 0) (part.Whole 4) (framed (scan_of (judge Two bytes))) in
     elim (cases_Bool (ltb (length bytes) 4)) [
       | inl few ↦
           let four : part.More 4 ≡ part.More m = sym (by_true (ltb (length bytes) 4) (part.More 4) last few) ∙ e in
@@ -296,8 +298,8 @@ frame_asks bytes m e =
       | inr ready ↦
           let second : last ≡ part.More m = sym (by_false (ltb (length bytes) 4) (part.More 4) last ready) ∙ e in
           let third =
-          first_no (eqb (length_of bytes) 0) (part.Whole 4) (framed (scan_of (judge bytes))) (part.More m) second (λ other. cc) in
-          judge_more bytes m (framed_more (judge bytes) m third.1)
+          first_no (eqb (length_of bytes) 0) (part.Whole 4) (framed (scan_of (judge Two bytes))) (part.More m) second (λ other. cc) in
+          judge_more Two bytes m (framed_more (judge Two bytes) m third.1)
     ]
 
 piece_asks : (s : Stage) (bytes : List ℕ) (m : ℕ) → IsBytes bytes → piece_of s bytes ≡ part.More m → length bytes < m

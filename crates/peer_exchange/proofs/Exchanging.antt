@@ -9,6 +9,7 @@ use Rattle.context_diff.proofs.CallerLemmas.{complete}
 use Rattle.cot_site.specs.States.{State}
 use Rattle.cot_site.specs.Releases.{IsSound}
 use Rattle.cot_site.specs.Sites.{AllFormed}
+use Rattle.wire_codec.specs.declared.version.Version.TheVariants.{Two}
 use Rattle.wire_codec.specs.Spelling.{frame}
 use Rattle.peer_exchange.specs.Joins.{unseen, joined, AreAlike, IsJoined}
 use Rattle.peer_exchange.specs.Messages.{end_mark, telling, first_message, IsSecond, IsThird, IsAnswered}
@@ -38,7 +39,7 @@ answered_is h p second n v w a =
       record {
         is = history_is_state h v;
         formed = formed_unseen (is_known p) h v;
-        parts = a.appended ∙ ap (λ (os : List OpData). telling (context_of_all h) ++ (flat_map frame os ++ end_mark)) lacked;
+        parts = a.appended ∙ ap (λ (os : List OpData). telling (context_of_all h) ++ (flat_map (frame Two) os ++ end_mark)) lacked;
       },
       a.frames ∙ ap length lacked,
     )
@@ -69,7 +70,7 @@ closed_is h p t t' second third took sent v sound is c =
           record {
             formed = formed_unseen (is_known h) t'.history valid;
             parts = c.appended
-                ∙ ap (λ (ps : List OpData). flat_map frame ps ++ end_mark) lacked;
+                ∙ ap (λ (ps : List OpData). flat_map (frame Two) ps ++ end_mark) lacked;
           };
       received = c.received ∙ ap length ops;
       replied = c.sent ∙ ap length lacked;

@@ -3,6 +3,7 @@ use Rattle.std.proofs.Common.{◌≡◌, ℕ, zero, suc, ◌+◌, ltb, eqb, Bool
 use Rattle.std.specs.List.{starts_with}
 use Rattle.context_vector.specs.Contexts.{ContextData}
 use Rattle.context_diff.specs.Operations.{OpData}
+use Rattle.wire_codec.specs.declared.version.Version.TheVariants.{Two}
 use Rattle.wire_codec.specs.declared.fault.Refused.{Refused}
 use Rattle.wire_codec.specs.declared.fault.Refused.TheVariants.{More, Bad}
 use Rattle.wire_codec.specs.declared.fault.Unread.{Unread}
@@ -63,9 +64,9 @@ piece_inside (Head frames) bytes =
 piece_inside (State frames) bytes = stated_inside frames (judge_state bytes)
 piece_inside Frames bytes =
     let is_end = eqb (length_of bytes) 0 in
-    let said = framed (scan_of (judge bytes)) in
+    let said = framed (scan_of (judge Two bytes)) in
     either (ltb (length bytes) 4) (part.More 4) (cond is_end (part.Whole 4) said) tt
-    (either is_end (part.Whole 4) said tt (framed_inside (judge bytes)))
+    (either is_end (part.Whole 4) said tt (framed_inside (judge Two bytes)))
 
 on_inside : (follows : Stage → ℕ → Measure) (at : ℕ) (p : Piece) → ((next : Stage) (used : ℕ) → SaysInside (follows next used))
     → FailsInside p → SaysInside (after_piece follows at p)

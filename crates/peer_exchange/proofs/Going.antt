@@ -70,21 +70,6 @@ one_on bytes from to next used fits inside e stage at =
           on ∙ (λ i. measured (sym stage i) (sym at i) (further i));
     }
 
-pub on_trans : (bytes : List ℕ) (a b c : Place) → GoesOn bytes a b → GoesOn bytes b c → GoesOn bytes a c
-on_trans bytes a b c first second = record { within = second.within; says = λ tail fits. first.says tail fits ∙ second.says tail fits }
-
-pub on_itself : (bytes : List ℕ) (a : Place) → a.at ≤ length bytes → GoesOn bytes a a
-on_itself bytes a inside = record { within = inside; says = λ tail fits. refl }
-
--- with nothing after the bytes
-pub says_here : (bytes : List ℕ) (a b : Place) → IsBytes bytes → GoesOn bytes a b
-    → measured a.stage a.at (drop a.at bytes) ≡ measured b.stage b.at (drop b.at bytes)
-says_here bytes a b fits on =
-    let none = append-nil bytes in
-    let all : IsBytes (bytes ++ []) = λ i. rw none (fits i) in
-    let says = on.says [] all in
-    rw none at says
-
 -- the message says what is said from the place where it stands
 pub stands_says : (which : Which) (bytes : List ℕ) (place : Place) → IsBytes bytes → Stands which bytes place
     → measure_of which bytes ≡ measured place.stage place.at (drop place.at bytes)

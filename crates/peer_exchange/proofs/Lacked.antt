@@ -10,6 +10,7 @@ use Rattle.std.proofs.lemmas.Grind.{flat_map-append}
 use Rattle.op_name.specs.declared.member.Member.{Member}
 use Rattle.context_vector.specs.Contexts.{ContextData, has}
 use Rattle.context_diff.specs.Operations.{OpData, member_of}
+use Rattle.wire_codec.specs.declared.version.Version.TheVariants.{Two}
 use Rattle.wire_codec.specs.Spelling.{frame}
 use Rattle.peer_exchange.specs.Joins.{unseen}
 use Rattle.peer_exchange.specs.Messages.{lacked_frames}
@@ -44,8 +45,8 @@ frames_more state os i o old now new at is more =
     more
     ∙ (ap (λ (t : List ℕ). t ++ lacked_frames state (o ∷ [])) is
     ∙ (append_assoc old (lacked_frames state (take i os)) (lacked_frames state (o ∷ []))
-    ∙ ap (λ (t : List ℕ). old ++ t) (sym (ap (flat_map frame) (lacked_next (has state) os i o at)
-    ∙ flat_map-append frame (unseen (has state) (take i os)) (unseen (has state) (o ∷ []))))))
+    ∙ ap (λ (t : List ℕ). old ++ t) (sym (ap (flat_map (frame Two)) (lacked_next (has state) os i o at)
+    ∙ flat_map-append (frame Two) (unseen (has state) (take i os)) (unseen (has state) (o ∷ []))))))
 
 pub count_all : (state : ContextData) (os : List OpData) (i now : ℕ) → now ≡ length (unseen (has state) (take i os)) → length os ≤ i
     → now ≡ length (unseen (has state) os)

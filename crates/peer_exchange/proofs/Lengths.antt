@@ -11,8 +11,9 @@ use Rattle.context_diff.specs.Operations.{OpData, member_of}
 use Rattle.context_diff.specs.Histories.{context_of_all, is_known, IsValid}
 use Rattle.context_diff.proofs.CallerLemmas.{all_is_context, named_few}
 use Rattle.cot_site.specs.States.{State}
+use Rattle.wire_codec.specs.declared.version.Version.TheVariants.{Two}
 use Rattle.wire_codec.specs.Spelling.{frame}
-use Rattle.wire_codec.specs.Judging.{count_len, entry_len}
+use Rattle.wire_codec.specs.Judging.{count_len}
 use Rattle.wire_codec.specs.States.{state_bytes}
 use Rattle.peer_exchange.specs.Joins.{unseen}
 use Rattle.peer_exchange.specs.Measuring.{head}
@@ -21,7 +22,7 @@ use Rattle.peer_exchange.specs.Exchanges.{IsQuiet}
 use Rattle.peer_exchange.specs.Lengths.{few_operations, HasLongSecond, HasLongThird, ShortHistoriesHaveShortMessages}
 use Rattle.peer_exchange.proofs.Exchanging.{answered_is, closed_is, IsReplied}
 use Rattle.peer_exchange.proofs.Sent.{lacked_formed}
-use Rattle.peer_exchange.proofs.Sizes.{longest_frame, frames_short, state_short}
+use Rattle.peer_exchange.proofs.Sizes.{longest_frame, frames_short, context_short}
 use Rattle.peer_exchange.proofs.TakenOps.{new_operations_are_appended}
 use Rattle.peer_exchange.proofs.Unrefused.{lacked_are_new}
 
@@ -33,9 +34,9 @@ unseen_few k os =
 
 -- ---- messages by the number of operations of the histories
 
--- a head, a count for each site, and an entry for each operation
+-- a head, a count for each site, and a run for each operation
 abbrev longest_first : ℕ → ℕ
-longest_first n = 13 + count_len * SITES + entry_len * n
+longest_first n = 14 + count_len Two * SITES + 12 * n
 
 -- a frame for each operation, and the end mark
 abbrev longest_third : ℕ → ℕ
@@ -44,12 +45,12 @@ longest_third n = longest_frame * n + 4
 first_short : (h : List OpData) → IsValid h → length (first_message h) ≤ longest_first (length h)
 first_short h v =
     let c = context_of_all h in
-    omega (arith, state_short c (all_is_context h v), named_few h, length-append head (state_bytes c))
+    omega (arith, context_short c (all_is_context h v), named_few h, length-append head (state_bytes c))
 
 third_short : (h : List OpData) (c : ContextData) → IsValid h → length (third_message h c) ≤ longest_third (length h)
 third_short h c v =
     let os = unseen (has c) h in
-    omega (arith, frames_short os (lacked_formed c h v), unseen_few (has c) h, length-append (flat_map frame os) end_mark)
+    omega (arith, frames_short os (lacked_formed c h v), unseen_few (has c) h, length-append (flat_map (frame Two) os) end_mark)
 
 second_short : (h : List OpData) (c : ContextData) → IsValid h
     → length (second_message h c) ≤ longest_first (length h) + longest_third (length h)

@@ -10,10 +10,11 @@ use Rattle.context_vector.proofs.CallerLemmas.{length_at_most}
 use Rattle.context_diff.specs.Operations.{OpData}
 use Rattle.context_diff.specs.Histories.{context_of_all, IsValid}
 use Rattle.context_diff.proofs.CallerLemmas.{all_is_context, base_listed, complete, contains_here, group_has_target}
+use Rattle.wire_codec.specs.declared.version.Version.TheVariants.{Two}
 use Rattle.wire_codec.specs.declared.fault.Unread.{Unread}
 use Rattle.wire_codec.specs.Spelling.{frame}
 use Rattle.wire_codec.specs.States.{IsState, state_bytes, judge_state}
-use Rattle.wire_codec.proofs.CallerLemmas.{frame_once, state_again}
+use Rattle.wire_codec.proofs.CallerLemmas.{fits_two, frame_once, state_again}
 use Rattle.peer_exchange.specs.Measuring.{head}
 use Rattle.peer_exchange.specs.Messages.{end_mark, telling, first_message, IsFirst, IsSecond, IsThird}
 use Rattle.peer_exchange.specs.Code.Receiving.{no_frame}
@@ -53,12 +54,14 @@ one_third bytes [] [] is js = refl
 one_third bytes [] (p ∷ ps) is js = absurd (false≢true (sym (frame_says bytes p ps js) ∙ ap no_frame is.parts))
 one_third bytes (o ∷ os) [] is js = absurd (false≢true (sym (frame_says bytes o os is) ∙ ap no_frame js.parts))
 one_third bytes (o ∷ os) (p ∷ ps) is js =
+    let well = is.formed o (contains_here o os) in
+    let also = js.formed p (contains_here p ps) in
     let same : o ≡ p =
-    frame_once o p (flat_map frame os ++ end_mark) (flat_map frame ps ++ end_mark) (is.formed o (contains_here o os))
-    (js.formed p (contains_here p ps)) (sym (first_frame bytes o os is) ∙ first_frame bytes p ps js) in
-    let later : IsThird (drop (length (frame o)) bytes) ps =
-    subst (λ (x : OpData). IsThird (drop (length (frame x)) bytes) ps) (sym same) (behind_frame bytes p ps js) in
-    let rest = one_third (drop (length (frame o)) bytes) os ps (behind_frame bytes o os is) later in
+    frame_once Two o p (flat_map (frame Two) os ++ end_mark) (flat_map (frame Two) ps ++ end_mark) well (fits_two o well) also
+    (fits_two p also) (sym (first_frame bytes o os is) ∙ first_frame bytes p ps js) in
+    let later : IsThird (drop (length (frame Two o)) bytes) ps =
+    subst (λ (x : OpData). IsThird (drop (length (frame Two x)) bytes) ps) (sym same) (behind_frame bytes p ps js) in
+    let rest = one_third (drop (length (frame Two o)) bytes) os ps (behind_frame bytes o os is) later in
     λ i. same i ∷ rest i
 
 one_first : (bytes : List ℕ) (c d : ContextData) → IsFirst bytes c → IsFirst bytes d → c ≡ d
@@ -67,9 +70,10 @@ one_first bytes c d is js =
 
 one_second : (bytes : List ℕ) (c d : ContextData) (os ps : List OpData) → IsSecond bytes c os → IsSecond bytes d ps → (c ≡ d) × (os ≡ ps)
 one_second bytes c d os ps is js =
-    let both = one_state c d (flat_map frame os ++ end_mark) (flat_map frame ps ++ end_mark) is.is js.is (sym is.parts ∙ js.parts) in (
+    let both =
+    one_state c d (flat_map (frame Two) os ++ end_mark) (flat_map (frame Two) ps ++ end_mark) is.is js.is (sym is.parts ∙ js.parts) in (
       both.0,
-      one_third (flat_map frame os ++ end_mark) os ps (record { formed = is.formed; parts = refl })
+      one_third (flat_map (frame Two) os ++ end_mark) os ps (record { formed = is.formed; parts = refl })
           (record { formed = js.formed; parts = both.1 }),
     )
 

@@ -13,11 +13,12 @@ use Rattle.context_diff.specs.Ops.{data_of}
 use Rattle.context_diff.proofs.CallerLemmas.{contains_here, contains_later}
 use Rattle.cot_site.specs.States.{State, delivered}
 use Rattle.cot_site.specs.Releases.{settled}
+use Rattle.wire_codec.specs.declared.version.Version.TheVariants.{Two}
 use Rattle.wire_codec.specs.declared.fault.Refused.{Refused}
 use Rattle.wire_codec.specs.Spelling.{frame, body_bytes}
 use Rattle.wire_codec.specs.Judging.{length_of}
 use Rattle.wire_codec.specs.Answers.{HasFrame}
-use Rattle.wire_codec.proofs.CallerLemmas.{body_short, body_long}
+use Rattle.wire_codec.proofs.CallerLemmas.{body_short, body_long, fits_two}
 use Rattle.peer_exchange.specs.declared.peer.Peer.{Peer}
 use Rattle.peer_exchange.specs.declared.peer.Peer.TheVariants as peer
 use Rattle.peer_exchange.specs.Messages.{end_mark, IsThird}
@@ -57,7 +58,7 @@ module _ (s : State) (bytes left : List ℕ) (now : State) (count : ℕ) (p : Op
   pub record IsNext : Type 0 where
     pub later : List OpData
     pub split : w.others ≡ data_of p.0 ∷ later
-    pub size : p.1 ≡ length (frame (data_of p.0))
+    pub size : p.1 ≡ length (frame Two (data_of p.0))
 
   pub next_of : IsNext
   next_of = go w.others w.behind refl
@@ -70,7 +71,7 @@ module _ (s : State) (bytes left : List ℕ) (now : State) (count : ℕ) (p : Op
             later = os;
             split = is ∙ ap (λ (x : OpData). x ∷ os) (sym f.0);
             size = f.1
-                ∙ ap (λ (x : OpData). length (frame x)) (sym f.0);
+                ∙ ap (λ (x : OpData). length (frame Two x)) (sym f.0);
           }
 
   pub next_formed : IsWellFormed (data_of p.0)
@@ -86,9 +87,9 @@ module _ (s : State) (bytes left : List ℕ) (now : State) (count : ℕ) (p : Op
       let shifted : w.done ++ w.others ≡ (w.done ++ o ∷ []) ++ n.later =
       ap (λ (os : List OpData). w.done ++ os) n.split ∙ sym (append_assoc w.done (o ∷ []) n.later) in
       let here : IsThird left (o ∷ n.later) = subst (IsThird left) n.split w.behind in
-      let text : left ≡ frame o ++ (flat_map frame n.later ++ end_mark) =
-      here.parts ∙ (ap (λ (xs : List ℕ). xs ++ end_mark) (flat_map-cons frame o n.later)
-      ∙ append_assoc (frame o) (flat_map frame n.later) end_mark) in
+      let text : left ≡ frame Two o ++ (flat_map (frame Two) n.later ++ end_mark) =
+      here.parts ∙ (ap (λ (xs : List ℕ). xs ++ end_mark) (flat_map-cons (frame Two) o n.later)
+      ∙ append_assoc (frame Two o) (flat_map (frame Two) n.later) end_mark) in
       let counted = w.counted in
       record {
         done = w.done ++ o ∷ [];
@@ -96,15 +97,15 @@ module _ (s : State) (bytes left : List ℕ) (now : State) (count : ℕ) (p : Op
         all = subst (IsThird bytes) shifted w.all;
         behind = record {
           formed = λ q at. here.formed q (contains_later o n.later q at);
-          parts = ap (drop p.1) text ∙ drop_at (frame o) (flat_map frame n.later ++ end_mark) p.1 (sym n.size);
+          parts = ap (drop p.1) text ∙ drop_at (frame Two o) (flat_map (frame Two) n.later ++ end_mark) p.1 (sym n.size);
         };
         taken = taken_append s now w.done (o ∷ []) w.taken ∙ e;
         counted = omega (arith, counted, length-append w.done (o ∷ []));
         few = (
             let few = w.few in
             let size = n.size in
-            let total : length left ≡ length (frame o) + length (flat_map frame n.later ++ end_mark) =
-            ap length text ∙ length-append (frame o) (flat_map frame n.later ++ end_mark) in
+            let total : length left ≡ length (frame Two o) + length (flat_map (frame Two) n.later ++ end_mark) =
+            ap length text ∙ length-append (frame Two o) (flat_map (frame Two) n.later ++ end_mark) in
             omega (arith, few, size, total, length-drop p.1 left)
             );
       }
@@ -152,23 +153,24 @@ pub record IsThere (bytes : List ℕ) (os : List OpData) : Type 0 where
   pub later : List OpData
   pub split : os ≡ op ∷ later
   pub formed : IsWellFormed op
-  pub parts : bytes ≡ frame op ++ (flat_map frame later ++ end_mark)
+  pub parts : bytes ≡ frame Two op ++ (flat_map (frame Two) later ++ end_mark)
 
 pub first_frame : (bytes : List ℕ) (o : OpData) (os : List OpData) → IsThird bytes (o ∷ os)
-    → bytes ≡ frame o ++ (flat_map frame os ++ end_mark)
+    → bytes ≡ frame Two o ++ (flat_map (frame Two) os ++ end_mark)
 first_frame bytes o os are =
-    are.parts ∙ (ap (λ (xs : List ℕ). xs ++ end_mark) (flat_map-cons frame o os) ∙ append_assoc (frame o) (flat_map frame os) end_mark)
+    are.parts ∙ (ap (λ (xs : List ℕ). xs ++ end_mark) (flat_map-cons (frame Two) o os)
+    ∙ append_assoc (frame Two o) (flat_map (frame Two) os) end_mark)
 
 pub frame_says : (bytes : List ℕ) (o : OpData) (os : List OpData) → IsThird bytes (o ∷ os) → no_frame bytes ≡ false
 frame_says bytes o os are =
     let well = are.formed o (contains_here o os) in
-    let short = body_short o well.in_range in
-    let long = body_long o in
-    let n = length (body_bytes o) in
+    let short = body_short Two o well.in_range (fits_two o well) in
+    let long = body_long Two o in
+    let n = length (body_bytes Two o) in
     let text = first_frame bytes o os are in
-    let behind = flat_map frame os ++ end_mark in
+    let behind = flat_map (frame Two) os ++ end_mark in
     let size : length_of bytes ≡ n = ap length_of text ∙ from_be_bytes-to_be_bytes_4 n (omega (arith, short)) in
-    let total : length bytes ≡ 4 + (n + length behind) = ap length text ∙ omega (arith, length-append (body_bytes o) behind) in
+    let total : length bytes ≡ 4 + (n + length behind) = ap length text ∙ omega (arith, length-append (body_bytes Two o) behind) in
     let enough : ltb (length bytes) 4 ≡ false = le-ltb _ _ (omega (arith, total)) in
     elim (cases_Bool (eqb (length_of bytes) 0)) [
       | inl ended ↦ absurd (let zero_is = eqb-true _ _ ended in omega (arith, zero_is, size, long))
@@ -186,66 +188,56 @@ frame_there bytes (o ∷ os) e are =
 
 -- what is decoded there is that operation
 pub decoded_first : (bytes : List ℕ) (op : Op) (used : ℕ) → no_frame bytes ≡ false
-    → ((o : OpData) (rest : List ℕ) → IsWellFormed o → bytes ≡ frame o ++ rest
-    → ◌≡◌ {A = Result (OpData × ℕ) Refused} (Ok (data_of op, used)) (Ok (o, length (frame o))))
+    → ((o : OpData) (rest : List ℕ) → IsWellFormed o → bytes ≡ frame Two o ++ rest
+    → ◌≡◌ {A = Result (OpData × ℕ) Refused} (Ok (data_of op, used)) (Ok (o, length (frame Two o))))
     → (os : List OpData) → IsThird bytes os → IsFirstOf bytes os (Some (op, used))
 decoded_first bytes op used e only os are =
     let t = frame_there bytes os e are in
-    let is = only t.op (flat_map frame t.later ++ end_mark) t.formed t.parts in
-    let both : ◌≡◌ {A = OpData × ℕ} (data_of op, used) (t.op, length (frame t.op)) = cc in
+    let is = only t.op (flat_map (frame Two) t.later ++ end_mark) t.formed t.parts in
+    let both : ◌≡◌ {A = OpData × ℕ} (data_of op, used) (t.op, length (frame Two t.op)) = cc in
     subst (λ (xs : List OpData). IsFirstOf bytes xs (Some (op, used))) (sym t.split)
     (ap (λ (x : OpData × ℕ). x.0) both, ap (λ (x : OpData × ℕ). x.1) both)
 
-pub decoded_within : (bytes : List ℕ) (op : Op) (used : ℕ) → no_frame bytes ≡ false
-    → ((o : OpData) (rest : List ℕ) → IsWellFormed o → bytes ≡ frame o ++ rest
-    → ◌≡◌ {A = Result (OpData × ℕ) Refused} (Ok (data_of op, used)) (Ok (o, length (frame o))))
-    → (os : List OpData) → IsThird bytes os → (1 ≤ used) × (used ≤ length bytes)
-decoded_within bytes op used e only os are =
-    let t = frame_there bytes os e are in
-    let behind = flat_map frame t.later ++ end_mark in
-    let is = only t.op behind t.formed t.parts in
-    let both : ◌≡◌ {A = OpData × ℕ} (data_of op, used) (t.op, length (frame t.op)) = cc in
-    let size : used ≡ length (frame t.op) = ap (λ (x : OpData × ℕ). x.1) both in
-    let total : length bytes ≡ length (frame t.op) + length behind = ap length t.parts ∙ length-append (frame t.op) behind in
-    (omega (arith, size), omega (arith, size, total))
-
 -- an answer without an operation never comes there
 pub decoded_never : (bytes : List ℕ) (r : Refused) → no_frame bytes ≡ false
-    → ((o : OpData) (rest : List ℕ) → IsWellFormed o → bytes ≡ frame o ++ rest
-    → ◌≡◌ {A = Result (OpData × ℕ) Refused} (Err r) (Ok (o, length (frame o))))
+    → ((o : OpData) (rest : List ℕ) → IsWellFormed o → bytes ≡ frame Two o ++ rest
+    → ◌≡◌ {A = Result (OpData × ℕ) Refused} (Err r) (Ok (o, length (frame Two o))))
     → (os : List OpData) → IsThird bytes os → ⊥
 decoded_never bytes r e only os are =
     let t = frame_there bytes os e are in
-    let is = only t.op (flat_map frame t.later ++ end_mark) t.formed t.parts in
+    let is = only t.op (flat_map (frame Two) t.later ++ end_mark) t.formed t.parts in
     cc
 
 -- ---- a message with an operation begins with a frame
 
-begins_with : (bytes : List ℕ) (o : OpData) (os : List OpData) → IsThird bytes (o ∷ os) → HasFrame bytes
+begins_with : (bytes : List ℕ) (o : OpData) (os : List OpData) → IsThird bytes (o ∷ os) → HasFrame Two bytes
 begins_with bytes o os are =
-    let behind = flat_map frame os ++ end_mark in
-    let n = length (frame o) in
+    let well = are.formed o (contains_here o os) in
+    let behind = flat_map (frame Two) os ++ end_mark in
+    let n = length (frame Two o) in
     let text = first_frame bytes o os are in
-    let rest : drop n bytes ≡ behind = ap (drop n) text ∙ drop_at (frame o) behind n refl in (
+    let rest : drop n bytes ≡ behind = ap (drop n) text ∙ drop_at (frame Two o) behind n refl in (
       n,
       record {
         op = o;
         is = record {
-          well = are.formed o (contains_here o os);
+          well = well;
+          fits = fits_two o well;
           size = refl;
           parts = text
-              ∙ ap (λ (xs : List ℕ). frame o ++ xs) (sym rest);
+              ∙ ap (λ (xs : List ℕ). frame Two o ++ xs) (sym rest);
         };
       },
     )
 
-has_frame : (bytes : List ℕ) (done : List OpData) (o : OpData) (behind : List OpData) → IsThird bytes (done ++ o ∷ behind) → HasFrame bytes
+has_frame : (bytes : List ℕ) (done : List OpData) (o : OpData) (behind : List OpData) → IsThird bytes (done ++ o ∷ behind)
+    → HasFrame Two bytes
 has_frame bytes [] o behind are = begins_with bytes o behind are
 has_frame bytes (p ∷ done) o behind are = begins_with bytes p (done ++ o ∷ behind) are
 
 -- a frame is left
 pub frame_left : (s : State) (bytes left : List ℕ) (now : State) (count : ℕ) → IsTaking s bytes left now count → no_frame left ≡ false
-    → HasFrame bytes
+    → HasFrame Two bytes
 frame_left s bytes left now count w e =
     let t = frame_there left w.others e w.behind in
     has_frame bytes w.done t.op t.later (subst (λ (os : List OpData). IsThird bytes (w.done ++ os)) t.split w.all)
@@ -268,7 +260,7 @@ taking_fails s bytes left now count w = (
 )
 
 pub next_left : (s : State) (bytes left : List ℕ) (now : State) (count : ℕ) (p : Op × ℕ) → IsTaking s bytes left now count
-    → ((os : List OpData) → IsThird left os → IsFirstOf left os (Some p)) → HasFrame bytes
+    → ((os : List OpData) → IsThird left os → IsFirstOf left os (Some p)) → HasFrame Two bytes
 next_left s bytes left now count p w first =
     let n = next_of s bytes left now count p w first in
     has_frame bytes w.done (data_of p.0) n.later (subst (λ (os : List OpData). IsThird bytes (w.done ++ os)) n.split w.all)

@@ -1,6 +1,6 @@
 -- A whole second message tells a state, and has frames after it.
-use Rattle.std.proofs.Common.{◌≡◌, ℕ, zero, suc, ◌+◌, ◌≤◌, List, [], ◌++◌, length, drop, Result, Ok, Err, refl, sym, ap, subst, ◌∙◌}
-use Rattle.std.proofs.Common.{append_assoc, append-nil, arith, inl, inr, true}
+use Rattle.std.proofs.Common.{◌≡◌, ℕ, zero, suc, ◌+◌, ◌≤◌, List, ◌++◌, length, drop, Result, Ok, Err, refl, sym, ap, subst, ◌∙◌}
+use Rattle.std.proofs.Common.{append_assoc, arith, inl, inr, true}
 use Rattle.std.proofs.lemmas.List.{length-append, length-drop, drop-drop}
 use Rattle.context_vector.specs.Contexts.{ContextData}
 use Rattle.context_diff.specs.Operations.{OpData}
@@ -19,7 +19,6 @@ use Rattle.peer_exchange.specs.declared.stages.Stage.TheVariants as stage
 use Rattle.peer_exchange.specs.Measuring.{head, head_piece, stated, after_piece, pieces}
 use Rattle.peer_exchange.specs.Messages.{telling, IsSecond, IsThird}
 use Rattle.peer_exchange.specs.Refusals.{IsWhole, IsUnread}
-use Rattle.peer_exchange.specs.Taking.{all_taken_in}
 use Rattle.peer_exchange.specs.Closing.{IsUnclosed, IsUnfinished}
 use Rattle.peer_exchange.specs.Code.Receiving.{AreUntaken, IsToldUpTo}
 use Rattle.peer_exchange.proofs.FirstMessages.{head_only}
@@ -140,12 +139,6 @@ pub unread_unclosed : (s : State) (bytes : List ℕ) (why : Peer) → IsBytes by
 unread_unclosed s bytes (peer.Bytes offset cause) fits spoils = (refl, spoils)
 unread_unclosed s bytes (peer.Op member verdict) fits never = absurd never
 unread_unclosed s bytes peer.Memory fits whole = memory_unclosed s bytes fits whole
-
--- where all is taken in, and there is no memory for the answer
-pub all_unclosed : (s t : State) (bytes : List ℕ) (c : ContextData) (os : List OpData) → IsSecond bytes c os → all_taken_in s os ≡ Ok t
-    → IsUnclosed s bytes t peer.Memory
-all_unclosed s t bytes c os read taken =
-    (c, os, read, record { before = os; behind = []; parts = sym (append-nil os); at = t; taken = taken; reached = refl })
 
 pub unread_unfinished : (s : State) (bytes : List ℕ) (why : Peer) → IsBytes bytes → IsUnread Third bytes why → IsUnfinished s bytes s why
 unread_unfinished s bytes (peer.Bytes offset cause) fits spoils = (refl, spoils)

@@ -10,10 +10,12 @@ use Rattle.context_vector.specs.Contexts.{ContextData, IsContext}
 use Rattle.context_diff.specs.Operations.{OpData}
 use Rattle.context_diff.proofs.CallerLemmas.{contains_here, contains_later}
 use Rattle.cot_site.specs.Sites.{AllFormed}
-use Rattle.wire_codec.specs.Spelling.{count_bytes, counts_bytes, entry_bytes, body_bytes, frame}
-use Rattle.wire_codec.specs.Judging.{longest, count_len, entry_len}
-use Rattle.wire_codec.specs.States.{named_bytes, state_bytes}
-use Rattle.wire_codec.proofs.CallerLemmas.{body_short, counts_few}
+use Rattle.wire_codec.specs.declared.version.Version.TheVariants.{Two}
+use Rattle.wire_codec.specs.Versions.{longest}
+use Rattle.wire_codec.specs.Spelling.{body_bytes, frame}
+use Rattle.wire_codec.specs.Judging.{count_len}
+use Rattle.wire_codec.specs.States.{state_bytes}
+use Rattle.wire_codec.proofs.CallerLemmas.{body_short, counts_few, fits_two, state_short}
 
 -- pieces of at most k bytes each
 pieces_short : {A : Type 0} (f : A → List ℕ) (k : ℕ) (xs : List A) → ((x : A) → Contains xs x → length (f x) ≤ k)
@@ -35,20 +37,19 @@ pieces_short f k (x ∷ xs) each =
 
 -- the bytes of the longest frame
 abbrev pub longest_frame : ℕ
-longest_frame = 4 + longest
+longest_frame = 4 + longest Two
 
-pub frames_short : (os : List OpData) → AllFormed os → length (flat_map frame os) ≤ longest_frame * length os
-frames_short os formed = pieces_short frame longest_frame os (λ o at. one o (body_short o (formed o at).in_range))
+pub frames_short : (os : List OpData) → AllFormed os → length (flat_map (frame Two) os) ≤ longest_frame * length os
+frames_short os formed =
+    pieces_short (frame Two) longest_frame os (λ o at. one o (body_short Two o (formed o at).in_range (fits_two o (formed o at))))
   where
-    one : (o : OpData) → length (body_bytes o) ≤ longest → length (frame o) ≤ longest_frame
+    one : (o : OpData) → length (body_bytes Two o) ≤ longest Two → length (frame Two o) ≤ longest_frame
     one o short = omega (arith, short)
 
 -- ---- states
 
-pub state_short : (c : ContextData) → IsContext c → length (state_bytes c) ≤ 5 + count_len * SITES + entry_len * length c.entries
-unfolding state_bytes
-state_short c is =
+-- each undone name may be a run of its own
+pub context_short : (c : ContextData) → IsContext c → length (state_bytes c) ≤ 6 + count_len Two * SITES + 12 * length c.entries
+context_short c is =
     let few = counts_few 0 c.counts is.counts (omega arith) in
-    let counts = pieces_short count_bytes count_len c.counts (λ p at. omega arith) in
-    let entries = pieces_short entry_bytes entry_len c.entries (λ e at. omega arith) in
-    omega (arith, few, counts, entries, length-append (counts_bytes c.counts) (named_bytes c.entries))
+    omega (arith, few, state_short c)

@@ -6,6 +6,7 @@ use Rattle.std.proofs.lemmas.Bool.{ltb-false, le-ltb}
 use Rattle.std.proofs.lemmas.List.{length-append, length-drop, take-append-le, drop-append-le}
 use Rattle.context_vector.specs.Contexts.{ContextData}
 use Rattle.context_diff.specs.Operations.{OpData}
+use Rattle.wire_codec.specs.declared.version.Version.TheVariants.{Two}
 use Rattle.wire_codec.specs.declared.fault.Refused.{Refused}
 use Rattle.wire_codec.specs.declared.fault.Refused.TheVariants.{More, Bad}
 use Rattle.wire_codec.specs.declared.fault.Unread.{Unread}
@@ -63,22 +64,23 @@ state_part_stays frames bytes more p says e = go (judge_state bytes) refl e
 frame_part_stays : (bytes more : List ℕ) (p : Piece) → IsBytes bytes → Says p → piece_of Frames bytes ≡ p
     → piece_of Frames (bytes ++ more) ≡ p
 frame_part_stays bytes more p fits says e =
-    elim (split (ltb (length bytes) 4) (part.More 4) (cond (eqb (length_of bytes) 0) (part.Whole 4) (framed (scan_of (judge bytes)))) p e) [
+    elim (split (ltb (length bytes) 4) (part.More 4) (cond (eqb (length_of bytes) 0) (part.Whole 4) (framed (scan_of (judge Two bytes)))) p
+    e) [
       | inl few ↦ absurd (says 4 few.1)
       | inr ready ↦
           let long = ltb-false _ _ ready.0 in
           let same : eqb (length_of (bytes ++ more)) 0 ≡ eqb (length_of bytes) 0 = rw (take-append-le 4 bytes more long) refl in
           by_false (ltb (length (bytes ++ more)) 4) _ _ (le-ltb _ _ (omega (arith, long, length-append bytes more)))
-          ∙ elim (split (eqb (length_of bytes) 0) (part.Whole 4) (framed (scan_of (judge bytes))) p ready.1) [
+          ∙ elim (split (eqb (length_of bytes) 0) (part.Whole 4) (framed (scan_of (judge Two bytes))) p ready.1) [
             | inl ended ↦ by_true (eqb (length_of (bytes ++ more)) 0) _ _ (same ∙ ended.0) ∙ ended.1
-            | inr goes ↦ by_false (eqb (length_of (bytes ++ more)) 0) _ _ (same ∙ goes.0) ∙ go (judge bytes) refl goes.1
+            | inr goes ↦ by_false (eqb (length_of (bytes ++ more)) 0) _ _ (same ∙ goes.0) ∙ go (judge Two bytes) refl goes.1
           ]
     ]
   where
-    go : (j : Result (OpData × ℕ) Refused) → judge bytes ≡ j → framed (scan_of j) ≡ p → framed (scan_of (judge (bytes ++ more))) ≡ p
+    go : (j : Result (OpData × ℕ) Refused) → judge Two bytes ≡ j → framed (scan_of j) ≡ p → framed (scan_of (judge Two (bytes ++ more))) ≡ p
     go (Ok x) is same = ap (λ (x : Result (OpData × ℕ) Refused). framed (scan_of x)) (judge_stays bytes x.0 x.1 fits is more) ∙ same
     go (Err (More n)) is same = absurd (says n same)
-    go (Err (Bad f)) is same = ap (λ (x : Result (OpData × ℕ) Refused). framed (scan_of x)) (bad_stays bytes more f is) ∙ same
+    go (Err (Bad f)) is same = ap (λ (x : Result (OpData × ℕ) Refused). framed (scan_of x)) (bad_stays Two bytes more f is) ∙ same
 
 piece_stays : (s : Stage) (bytes more : List ℕ) (p : Piece) → IsBytes bytes → Says p → piece_of s bytes ≡ p → piece_of s (bytes ++ more) ≡ p
 piece_stays (Head frames) bytes more p fits says e = head_stays frames bytes more p says e

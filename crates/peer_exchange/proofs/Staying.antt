@@ -6,6 +6,7 @@ use Rattle.std.proofs.lemmas.Bool.{ltb-false, le-ltb}
 use Rattle.std.proofs.lemmas.List.{length-append, take-append-le}
 use Rattle.context_vector.specs.Contexts.{ContextData}
 use Rattle.context_diff.specs.Operations.{OpData}
+use Rattle.wire_codec.specs.declared.version.Version.TheVariants.{Two}
 use Rattle.wire_codec.specs.declared.fault.Refused.{Refused}
 use Rattle.wire_codec.specs.declared.fault.Refused.TheVariants.{More, Bad}
 use Rattle.wire_codec.specs.Spelling.{frame}
@@ -126,28 +127,28 @@ framed_got (Ok x) next used e =
 framed_got (Err (More n)) next used e = absurd cc
 framed_got (Err (Bad f)) next used e = absurd cc
 
-pub judge_stays : (bytes : List ℕ) (o : OpData) (used : ℕ) → IsBytes bytes → judge bytes ≡ Ok (o, used) → (tail : List ℕ)
-    → judge (bytes ++ tail) ≡ Ok (o, used)
+pub judge_stays : (bytes : List ℕ) (o : OpData) (used : ℕ) → IsBytes bytes → judge Two bytes ≡ Ok (o, used) → (tail : List ℕ)
+    → judge Two (bytes ++ tail) ≡ Ok (o, used)
 judge_stays bytes o used fits e tail =
-    let is = judge_takes bytes o used fits e in
-    ap (λ (t : List ℕ). judge (t ++ tail)) is.parts
-    ∙ (ap judge (append_assoc (frame o) (drop used bytes) tail)
-    ∙ (judge_again o (drop used bytes ++ tail) is.well ∙ ap (λ (n : ℕ). Ok (o, n)) (sym is.size)))
+    let is = judge_takes Two bytes o used fits e in
+    ap (λ (t : List ℕ). judge Two (t ++ tail)) is.parts
+    ∙ (ap (judge Two) (append_assoc (frame Two o) (drop used bytes) tail)
+    ∙ (judge_again Two o (drop used bytes ++ tail) is.well is.fits ∙ ap (λ (n : ℕ). Ok (o, n)) (sym is.size)))
 
 frame_there : (bytes : List ℕ) (next : Stage) (used : ℕ) → IsBytes bytes → frame_piece bytes ≡ part.Got next used
     → IsThere Frames bytes next used
 frame_there bytes next used fits e =
     let ended = eqb (length_of bytes) 0 in
     let long =
-    first_no (ltb (length bytes) 4) (part.More 4) (cond ended (part.Whole 4) (framed (scan_of (judge bytes)))) (part.Got next used) e
+    first_no (ltb (length bytes) 4) (part.More 4) (cond ended (part.Whole 4) (framed (scan_of (judge Two bytes)))) (part.Got next used) e
     (λ other. cc) in
-    let more = first_no ended (part.Whole 4) (framed (scan_of (judge bytes))) (part.Got next used) long.1 (λ other. cc) in
+    let more = first_no ended (part.Whole 4) (framed (scan_of (judge Two bytes))) (part.Got next used) long.1 (λ other. cc) in
     let enough = ltb-false _ _ long.0 in
-    let got = framed_got (judge bytes) next used more.1 in
-    let is = judge_takes bytes got.0 used fits got.1 in
+    let got = framed_got (judge Two bytes) next used more.1 in
+    let is = judge_takes Two bytes got.0 used fits got.1 in
     let size = is.size in
-    let total : length bytes ≡ length (frame got.0) + length (drop used bytes) =
-    ap length is.parts ∙ length-append (frame got.0) (drop used bytes) in
+    let total : length bytes ≡ length (frame Two got.0) + length (drop used bytes) =
+    ap length is.parts ∙ length-append (frame Two got.0) (drop used bytes) in
     record {
       some = omega (arith, size);
       within = omega (arith, size, total);

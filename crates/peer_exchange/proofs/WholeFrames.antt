@@ -10,6 +10,7 @@ use Rattle.std.proofs.lemmas.Nat.{be_bytes_4}
 use Rattle.context_diff.specs.Operations.{OpData, IsWellFormed}
 use Rattle.context_diff.proofs.CallerLemmas.{contains_cases, contains_none}
 use Rattle.cot_site.specs.Sites.{AllFormed}
+use Rattle.wire_codec.specs.declared.version.Version.TheVariants.{Two}
 use Rattle.wire_codec.specs.declared.fault.Refused.{Refused}
 use Rattle.wire_codec.specs.declared.fault.Refused.TheVariants.{More, Bad}
 use Rattle.wire_codec.specs.Spelling.{frame}
@@ -33,8 +34,8 @@ record WithRest (bytes : List ℕ) (size : ℕ) : Type 0 where
   os : List OpData
   rest : List ℕ
   formed : AllFormed os
-  parts : bytes ≡ flat_map frame os ++ (end_mark ++ rest)
-  long : size ≡ length (flat_map frame os) + 4
+  parts : bytes ≡ flat_map (frame Two) os ++ (end_mark ++ rest)
+  long : size ≡ length (flat_map (frame Two) os) + 4
 
 framed_not_whole : (j : Result (OpData × ℕ) Refused) (u : ℕ) → framed (scan_of j) ≡ part.Whole u → ⊥
 framed_not_whole (Ok x) u e = cc
@@ -46,18 +47,20 @@ with_first : (bytes : List ℕ) (next : Stage) (u size : ℕ) → IsBytes bytes 
     → (next ≡ Frames → WithRest (drop u bytes) size) → WithRest bytes (u + size)
 with_first bytes next u size fits e later =
     let long =
-    first_no (ltb (length bytes) 4) (part.More 4) (cond (eqb (length_of bytes) 0) (part.Whole 4) (framed (scan_of (judge bytes))))
+    first_no (ltb (length bytes) 4) (part.More 4) (cond (eqb (length_of bytes) 0) (part.Whole 4) (framed (scan_of (judge Two bytes))))
     (part.Got next u) e (λ other. cc) in
-    let more = first_no (eqb (length_of bytes) 0) (part.Whole 4) (framed (scan_of (judge bytes))) (part.Got next u) long.1 (λ other. cc) in
-    let got = framed_got (judge bytes) next u more.1 in
+    let more =
+    first_no (eqb (length_of bytes) 0) (part.Whole 4) (framed (scan_of (judge Two bytes))) (part.Got next u) long.1 (λ other. cc) in
+    let got = framed_got (judge Two bytes) next u more.1 in
     let o = got.0 in
-    let is = judge_takes bytes o u fits got.1 in
+    let is = judge_takes Two bytes o u fits got.1 in
     let w = later got.2 in
     let size_is = is.size in
     let rest_long = w.long in
-    let regrouped : flat_map frame (o ∷ w.os) ++ (end_mark ++ w.rest) ≡ frame o ++ (flat_map frame w.os ++ (end_mark ++ w.rest)) =
-    ap (λ (xs : List ℕ). xs ++ (end_mark ++ w.rest)) (flat_map-cons frame o w.os)
-    ∙ append_assoc (frame o) (flat_map frame w.os) (end_mark ++ w.rest) in
+    let regrouped : flat_map (frame Two) (o ∷ w.os) ++ (end_mark ++ w.rest) ≡ frame Two o
+    ++ (flat_map (frame Two) w.os ++ (end_mark ++ w.rest)) =
+    ap (λ (xs : List ℕ). xs ++ (end_mark ++ w.rest)) (flat_map-cons (frame Two) o w.os)
+    ∙ append_assoc (frame Two o) (flat_map (frame Two) w.os) (end_mark ++ w.rest) in
     record {
       os = o ∷ w.os;
       rest = w.rest;
@@ -65,18 +68,24 @@ with_first bytes next u size fits e later =
         | inl here ↦ subst IsWellFormed here is.well
         | inr behind ↦ w.formed q behind
       ];
-      parts = is.parts ∙ (ap (λ (xs : List ℕ). frame o ++ xs) w.parts ∙ sym regrouped);
-      long = omega (arith, size_is, rest_long, ap length (flat_map-cons frame o w.os), length-append (frame o) (flat_map frame w.os));
+      parts = is.parts ∙ (ap (λ (xs : List ℕ). frame Two o ++ xs) w.parts ∙ sym regrouped);
+      long = omega (
+        arith,
+        size_is,
+        rest_long,
+        ap length (flat_map-cons (frame Two) o w.os),
+        length-append (frame Two o) (flat_map (frame Two) w.os),
+      );
     }
 
 at_end : (bytes : List ℕ) (u : ℕ) → IsBytes bytes → frame_piece bytes ≡ part.Whole u → WithRest bytes u
 at_end bytes u fits e =
     let long =
-    first_no (ltb (length bytes) 4) (part.More 4) (cond (eqb (length_of bytes) 0) (part.Whole 4) (framed (scan_of (judge bytes))))
+    first_no (ltb (length bytes) 4) (part.More 4) (cond (eqb (length_of bytes) 0) (part.Whole 4) (framed (scan_of (judge Two bytes))))
     (part.Whole u) e (λ other. cc) in
     let ended =
-    first_yes (eqb (length_of bytes) 0) (part.Whole 4) (framed (scan_of (judge bytes))) (part.Whole u) long.1
-    (framed_not_whole (judge bytes) u) in
+    first_yes (eqb (length_of bytes) 0) (part.Whole 4) (framed (scan_of (judge Two bytes))) (part.Whole u) long.1
+    (framed_not_whole (judge Two bytes) u) in
     let size : 4 ≡ u = let is = ended.1 in cc in
     let enough = ltb-false _ _ long.0 in
     let front_len : length (take 4 bytes) ≡ 4 = omega (arith, enough, length-take 4 bytes) in
@@ -106,11 +115,11 @@ whole_from (suc n) at used bytes fits e =
         → (p : Piece) → frame_piece bytes ≡ p → after p ≡ message.Whole used → (size : ℕ) × (used ≡ at + size) × WithRest bytes size
     go again (part.Got next u) is says =
         let long =
-        first_no (ltb (length bytes) 4) (part.More 4) (cond (eqb (length_of bytes) 0) (part.Whole 4) (framed (scan_of (judge bytes))))
+        first_no (ltb (length bytes) 4) (part.More 4) (cond (eqb (length_of bytes) 0) (part.Whole 4) (framed (scan_of (judge Two bytes))))
         (part.Got next u) is (λ other. cc) in
         let more =
-        first_no (eqb (length_of bytes) 0) (part.Whole 4) (framed (scan_of (judge bytes))) (part.Got next u) long.1 (λ other. cc) in
-        let frames : next ≡ Frames = (framed_got (judge bytes) next u more.1).2 in
+        first_no (eqb (length_of bytes) 0) (part.Whole 4) (framed (scan_of (judge Two bytes))) (part.Got next u) long.1 (λ other. cc) in
+        let frames : next ≡ Frames = (framed_got (judge Two bytes) next u more.1).2 in
         let later =
         again (drop u bytes) (at + u) (IsBytes-drop u bytes fits) (ap (λ (s : Stage). pieces n s (at + u) (drop u bytes)) (sym frames)
         ∙ says) in
@@ -128,14 +137,14 @@ frames_end n at bytes fits whole =
     let r = w.2 in
     let size = w.1 in
     let long = r.long in
-    let total : length bytes ≡ length (flat_map frame r.os) + (4 + length r.rest) =
-    ap length r.parts ∙ (length-append (flat_map frame r.os) (end_mark ++ r.rest) ∙ omega (arith, length-append end_mark r.rest)) in
+    let total : length bytes ≡ length (flat_map (frame Two) r.os) + (4 + length r.rest) =
+    ap length r.parts ∙ (length-append (flat_map (frame Two) r.os) (end_mark ++ r.rest) ∙ omega (arith, length-append end_mark r.rest)) in
     let none : r.rest ≡ [] = nil_from_length r.rest (omega (arith, size, long, total)) in (
       r.os,
       record {
         formed = r.formed;
-        parts = r.parts ∙ ap (λ (xs : List ℕ). flat_map frame r.os ++ (end_mark ++ xs)) none
-            ∙ ap (λ (xs : List ℕ). flat_map frame r.os ++ xs) (append-nil end_mark);
+        parts = r.parts ∙ ap (λ (xs : List ℕ). flat_map (frame Two) r.os ++ (end_mark ++ xs)) none
+            ∙ ap (λ (xs : List ℕ). flat_map (frame Two) r.os ++ xs) (append-nil end_mark);
       },
     )
 

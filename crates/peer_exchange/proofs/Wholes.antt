@@ -8,13 +8,14 @@ use Rattle.std.proofs.lemmas.List.Concat.{flat_map-cons}
 use Rattle.context_vector.specs.Contexts.{ContextData}
 use Rattle.context_diff.specs.Operations.{OpData}
 use Rattle.context_diff.proofs.CallerLemmas.{contains_here, contains_later}
+use Rattle.wire_codec.specs.declared.version.Version.TheVariants.{Two}
 use Rattle.wire_codec.specs.declared.fault.Refused.{Refused}
 use Rattle.wire_codec.specs.declared.fault.Unread.{Unread}
 use Rattle.wire_codec.specs.Spelling.{frame}
 use Rattle.wire_codec.specs.Judging.{judge, length_of}
 use Rattle.wire_codec.specs.Answers.{scan_of}
 use Rattle.wire_codec.specs.States.{IsState, state_bytes, judge_state, state_scan_of}
-use Rattle.wire_codec.proofs.CallerLemmas.{judge_again, state_again}
+use Rattle.wire_codec.proofs.CallerLemmas.{fits_two, judge_again, state_again}
 use Rattle.peer_exchange.specs.declared.messages.Measure.TheVariants as message
 use Rattle.peer_exchange.specs.declared.messages.Which.TheVariants.{First, Second, Third}
 use Rattle.peer_exchange.specs.declared.messages.PeerCause.TheVariants as causes
@@ -30,19 +31,22 @@ use Rattle.peer_exchange.proofs.Receivings.{first_frame, frame_says}
 -- ---- frames
 
 frame_got : (bytes : List ℕ) (o : OpData) (os : List OpData) → IsThird bytes (o ∷ os)
-    → frame_piece bytes ≡ part.Got stage.Frames (length (frame o))
+    → frame_piece bytes ≡ part.Got stage.Frames (length (frame Two o))
 frame_got bytes o os is =
     let there = or_parts (ltb (length bytes) 4) (eqb (length_of bytes) 0) (frame_says bytes o os is) in
-    let read : judge bytes ≡ Ok (o, length (frame o)) =
-    ap judge (first_frame bytes o os is) ∙ judge_again o (flat_map frame os ++ end_mark) (is.formed o (contains_here o os)) in
+    let well = is.formed o (contains_here o os) in
+    let read : judge Two bytes ≡ Ok (o, length (frame Two o)) =
+    ap (judge Two) (first_frame bytes o os is) ∙ judge_again Two o (flat_map (frame Two) os ++ end_mark) well (fits_two o well) in
     by_false (ltb (length bytes) 4) _ _ there.0
     ∙ (by_false (eqb (length_of bytes) 0) _ _ there.1 ∙ ap (λ (j : Result (OpData × ℕ) Refused). framed (scan_of j)) read)
 
-pub behind_frame : (bytes : List ℕ) (o : OpData) (os : List OpData) → IsThird bytes (o ∷ os) → IsThird (drop (length (frame o)) bytes) os
+pub behind_frame : (bytes : List ℕ) (o : OpData) (os : List OpData) → IsThird bytes (o ∷ os)
+    → IsThird (drop (length (frame Two o)) bytes) os
 behind_frame bytes o os is = record {
   formed = λ p at. is.formed p (contains_later o os p at);
   parts =
-      ap (drop (length (frame o))) (first_frame bytes o os is) ∙ drop_at (frame o) (flat_map frame os ++ end_mark) (length (frame o)) refl;
+      ap (drop (length (frame Two o))) (first_frame bytes o os is)
+      ∙ drop_at (frame Two o) (flat_map (frame Two) os ++ end_mark) (length (frame Two o)) refl;
 }
 
 frames_whole : (n at : ℕ) (os : List OpData) (bytes : List ℕ) → IsThird bytes os → length os < n
@@ -52,27 +56,28 @@ frames_whole zero at os bytes is few = absurd (omega (arith, few))
 frames_whole (suc n) at [] bytes is few =
     subst (λ (xs : List ℕ). pieces (suc n) stage.Frames at xs ≡ message.Whole (at + length xs)) (sym is.parts) refl
 frames_whole (suc n) at (o ∷ os) bytes is few =
-    let size = length (frame o) in
-    let behind = flat_map frame os ++ end_mark in
+    let size = length (frame Two o) in
+    let behind = flat_map (frame Two) os ++ end_mark in
     let parts = first_frame bytes o os is in
     let left : drop size bytes ≡ behind = (behind_frame bytes o os is).parts in
     let total : length bytes ≡ size + length (drop size bytes) =
-    ap length parts ∙ (length-append (frame o) behind ∙ ap (λ (xs : List ℕ). size + length xs) (sym left)) in
+    ap length parts ∙ (length-append (frame Two o) behind ∙ ap (λ (xs : List ℕ). size + length xs) (sym left)) in
     ap (after_piece (λ next used. pieces n next (at + used) (drop used bytes)) at) (frame_got bytes o os is)
     ∙ (frames_whole n (at + size) os (drop size bytes) (behind_frame bytes o os is) (omega (arith, few))
     ∙ ap (λ (k : ℕ). message.Whole k) (omega (arith, total)))
 
 -- each frame has a byte
-few_frames : (os : List OpData) → length os ≤ length (flat_map frame os)
+few_frames : (os : List OpData) → length os ≤ length (flat_map (frame Two) os)
 few_frames [] = omega arith
 few_frames (o ∷ os) =
     let rest = few_frames os in
-    omega (arith, rest, ap length (flat_map-cons frame o os), length-append (frame o) (flat_map frame os))
+    omega (arith, rest, ap length (flat_map-cons (frame Two) o os), length-append (frame Two o) (flat_map (frame Two) os))
 
 third_whole : (bytes : List ℕ) (os : List OpData) → IsThird bytes os → IsWhole Third bytes
 third_whole bytes os is =
     let few = few_frames os in
-    let total : length bytes ≡ length (flat_map frame os) + 4 = ap length is.parts ∙ length-append (flat_map frame os) end_mark in
+    let total : length bytes ≡ length (flat_map (frame Two) os) + 4 =
+    ap length is.parts ∙ length-append (flat_map (frame Two) os) end_mark in
     frames_whole (suc (length bytes)) 0 os bytes is (omega (arith, few, total)) ∙ ap (λ (k : ℕ). message.Whole k) (omega arith)
 
 -- ---- heads and states
@@ -122,7 +127,7 @@ first_whole bytes c is =
 
 second_whole : (bytes : List ℕ) (c : ContextData) (os : List OpData) → IsSecond bytes c os → IsWhole Second bytes
 second_whole bytes c os is =
-    let rest = flat_map frame os ++ end_mark in
+    let rest = flat_map (frame Two) os ++ end_mark in
     let size = told_size bytes c rest is.is is.parts in
     let left = behind_state bytes c rest is.is is.parts in
     let used = length (state_bytes c) in
@@ -131,7 +136,7 @@ second_whole bytes c os is =
     let total : length (drop used (drop 8 bytes)) ≡ length rest = ap length left in
     told_measure bytes c rest is.is is.parts true
     ∙ (frames_whole (length bytes - 1) (8 + used) os (drop used (drop 8 bytes)) third
-    (omega (arith, size, few, length-append (flat_map frame os) end_mark))
+    (omega (arith, size, few, length-append (flat_map (frame Two) os) end_mark))
     ∙ ap (λ (k : ℕ). message.Whole k) (omega (arith, size, total)))
 
 pub messages_are_whole : MessagesAreWhole

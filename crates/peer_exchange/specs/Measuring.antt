@@ -1,6 +1,7 @@
 -- How long a message is, as far as its bytes tell: a chain of parts, each of which says by its own front how long it is.
 use Rattle.std.specs.Prelude.{◌≡◌, ℕ, zero, suc, ◌+◌, ◌==◌, Bool, true, false, List, length, drop, codes, nat_lt, if◌then◌else◌}
 use Rattle.std.specs.List.{starts_with}
+use Rattle.wire_codec.specs.declared.version.Version.TheVariants.{Two}
 use Rattle.wire_codec.specs.declared.answers.Scan.{Scan}
 use Rattle.wire_codec.specs.declared.answers.Scan.TheVariants as scanned
 use Rattle.wire_codec.specs.declared.state_answers.StateScan.{StateScan}
@@ -29,9 +30,9 @@ start First = Head false
 start Second = Head true
 start Third = Frames
 
--- the eight bytes of a head
+-- the eight bytes of a head, which say the version of the state and of the frames
 abbrev pub head : List ℕ
-head = codes "COTVEC1\n"
+head = codes "COTVEC2\n"
 
 -- a head, before a state that frames follow or not
 abbrev pub head_piece : Bool → List ℕ → Piece
@@ -57,7 +58,7 @@ framed (scanned.Bad cause offset) = part.Bad offset (causes.Frame cause)
 abbrev pub frame_piece : List ℕ → Piece
 frame_piece bytes =
     if nat_lt (length bytes) 4 then part.More 4
-    else if length_of bytes == 0 then part.Whole 4 else framed (scan_of (judge bytes))
+    else if length_of bytes == 0 then part.Whole 4 else framed (scan_of (judge Two bytes))
 
 abbrev pub piece_of : Stage → List ℕ → Piece
 piece_of (Head frames) bytes = head_piece frames bytes

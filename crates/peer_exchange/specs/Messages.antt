@@ -5,6 +5,7 @@ use Rattle.context_vector.specs.Contexts.{ContextData, has}
 use Rattle.context_diff.specs.Operations.{OpData}
 use Rattle.context_diff.specs.Histories.{context_of_all}
 use Rattle.cot_site.specs.Sites.{AllFormed}
+use Rattle.wire_codec.specs.declared.version.Version.TheVariants.{Two}
 use Rattle.wire_codec.specs.Spelling.{frame}
 use Rattle.wire_codec.specs.States.{IsState, state_bytes}
 use Rattle.peer_exchange.specs.Joins.{unseen}
@@ -16,7 +17,7 @@ end_mark = 0 ∷ 0 ∷ 0 ∷ 0 ∷ []
 
 -- the frames of these operations whose members the state lacks, in their order
 abbrev pub lacked_frames : ContextData → List OpData → List ℕ
-lacked_frames state os = flat_map frame (unseen (has state) os)
+lacked_frames state os = flat_map (frame Two) (unseen (has state) os)
 
 -- the message that tells a state
 abbrev pub telling : ContextData → List ℕ
@@ -43,12 +44,12 @@ pub record IsFirst (bytes : List ℕ) (state : ContextData) : Type 0 where
 pub record IsSecond (bytes : List ℕ) (state : ContextData) (os : List OpData) : Type 0 where
   pub is : IsState state
   pub formed : AllFormed os
-  pub parts : bytes ≡ telling state ++ (flat_map frame os ++ end_mark)
+  pub parts : bytes ≡ telling state ++ (flat_map (frame Two) os ++ end_mark)
 
 -- the bytes are the third message that has the frames of these operations
 pub record IsThird (bytes : List ℕ) (os : List OpData) : Type 0 where
   pub formed : AllFormed os
-  pub parts : bytes ≡ flat_map frame os ++ end_mark
+  pub parts : bytes ≡ flat_map (frame Two) os ++ end_mark
 
 -- the second message for the state that the first one tells is appended, and has so many frames
 pub record IsAnswered (h : List OpData) (first before now : List ℕ) (count : ℕ) : Type 0 where

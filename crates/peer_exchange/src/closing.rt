@@ -3,6 +3,7 @@
 ghost use Rattle.std.specs.Prelude.{◌≡◌, ◌≤◌, Err, length, IfOk, IfErr, OnErr};
 ghost use Rattle.cot_site.specs.Releases.{IsLater};
 ghost use Rattle.cot_site.specs.Sites.{state_of};
+ghost use Rattle.wire_codec.specs.declared.version.Version.TheVariants.{Two};
 ghost use Rattle.wire_codec.specs.Answers.{HasFrame};
 ghost use Rattle.peer_exchange.specs.declared.messages.TheConstants.{MAX_MESSAGE};
 ghost use Rattle.peer_exchange.specs.Refusals.{IsWhole};
@@ -71,7 +72,7 @@ pub fn finish(alloc: Global, site: &mut Site, third: &[u8]) -> Result<u32, Peer>
     requires { length third.now ≤ MAX_MESSAGE }
     ensures finished { IfOk result (IsFinished (state_of site.old) third.now (state_of site.new)) }
     ensures refused { IfErr result (IsUnfinished (state_of site.old) third.now (state_of site.new)) }
-    ensures needed { result ≡ Err Peer.Memory → HasFrame third.now }
+    ensures needed { result ≡ Err Peer.Memory → HasFrame Two third.now }
     // The old history stays the first part of the new one, whatever the answer.
     ensures later { IsLater (state_of site.old) (state_of site.new) }
 {

@@ -10,7 +10,7 @@ ghost use Rattle.peer_exchange.specs.Messages.{lacked_frames};
 use context_diff::{Book, Op};
 use context_vector::Vector;
 use op_name::Memory;
-use wire_codec::encode;
+use wire_codec::encode2;
 
 /// Appends the frames of the operations whose members the state lacks, in the book's order, and answers how many they
 /// are. Out of memory it may leave some of them after what `out` held.
@@ -42,6 +42,6 @@ fn put_if_lacked(op: &Op, state: &Vector, out: &mut Vec<u8>) -> Result<u32, Memo
     if state.contains(&op.member()) {
         return Ok(0);
     }
-    encode(op, out)?;
+    encode2(op, out)?;
     Ok(1)
 }

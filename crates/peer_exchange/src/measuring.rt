@@ -7,7 +7,7 @@ ghost use Rattle.peer_exchange.specs.Code.Places.{Stands, Fits, IsJudged};
 
 use crate::messages::{Measure, PeerCause, Which};
 use crate::stages::{Judged, Piece, Place, Stage};
-use wire_codec::{Scan, StateScan, scan, scan_state};
+use wire_codec::{Scan, StateScan, scan_state, scan2};
 
 /// The front of a message.
 pub(crate) fn start(which: Which) -> Place
@@ -29,7 +29,7 @@ fn head_piece(frames: bool, bytes: &[u8]) -> Piece
     if bytes.len() < 8 {
         return Piece::More { at_least: 8 };
     }
-    if bytes.starts_with(b"COTVEC1\n") {
+    if bytes.starts_with(b"COTVEC2\n") {
         return Piece::Got {
             next: Stage::State { frames },
             used: 8,
@@ -77,7 +77,7 @@ fn frame_piece(bytes: &[u8]) -> Piece
     if u32::from_be_bytes([bytes[0], bytes[1], bytes[2], bytes[3]]) == 0 {
         return Piece::Whole { used: 4 };
     }
-    match scan(bytes) {
+    match scan2(bytes) {
         Scan::Frame { used } => Piece::Got {
             next: Stage::Frames,
             used,

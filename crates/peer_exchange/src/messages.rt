@@ -19,7 +19,7 @@ pub enum Which {
 /// Why bytes aren't a message.
 #[derive(Clone, Copy, Debug, PartialEq, Eq)]
 pub enum PeerCause {
-    /// The first eight bytes aren't the head.
+    /// The first eight bytes aren't the head; a peer of version 1 has another one.
     Head,
     /// A field of a state or of a frame is bad.
     Frame(Cause),

@@ -18,8 +18,8 @@ use op_name::Memory;
 use std::alloc::Global;
 use wire_codec::{DecodedState, decode_state, encode_state};
 
-/// The bytes with which a message that tells a state begins.
-pub(crate) const HEAD: &[u8] = b"COTVEC1\n";
+/// The bytes with which a message that tells a state begins: states and frames of version 2 follow.
+pub(crate) const HEAD: &[u8] = b"COTVEC2\n";
 
 const END_MARK: &[u8] = b"\x00\x00\x00\x00";
 

@@ -4,6 +4,7 @@ ghost use Rattle.std.specs.Prelude.{◌≡◌, ◌≤◌, List, [], ◌∷◌, O
 ghost use Rattle.context_diff.specs.Operations.{OpData, IsWellFormed};
 ghost use Rattle.context_diff.specs.Ops.{data_of};
 ghost use Rattle.cot_site.specs.Sites.{state_of};
+ghost use Rattle.wire_codec.specs.declared.version.Version.TheVariants.{Two};
 ghost use Rattle.wire_codec.specs.Answers.{HasFrame};
 ghost use Rattle.peer_exchange.specs.declared.messages.TheConstants.{MAX_MESSAGE};
 ghost use Rattle.peer_exchange.specs.Messages.{IsThird};
@@ -16,7 +17,7 @@ use cot_site::{Release, Site};
 use op_name::Memory;
 use participant::{Taking, is_had, take_in};
 use std::alloc::Global;
-use wire_codec::{Decoded, decode};
+use wire_codec::{Decoded, decode2};
 
 // Takes in an operation that a peer sent, unless its verdict refuses it. The list is only room.
 fn take_next(site: &mut Site, op: Op, room: &mut Vec<Release>) -> Result<(), Peer>
@@ -67,7 +68,7 @@ fn first(alloc: Global, bytes: &[u8]) -> Result<Option<(Op, u32)>, Memory>
     if ends(bytes) {
         return Ok(None);
     }
-    match decode(alloc, bytes)? {
+    match decode2(alloc, bytes)? {
         Decoded::Got { op, used } => Ok(Some((op, used))),
         Decoded::More { .. } | Decoded::Bad { .. } => unreachable!(),
     }
@@ -81,7 +82,7 @@ pub(crate) fn take_frames(alloc: Global, site: &mut Site, bytes: &[u8]) -> Resul
         × (all_taken_in (state_of site.old) os ≡ Ok (state_of site.new))) }
     ensures untaken { IfErr result (λ why. (os : List OpData) × IsThird bytes.now os
         × AreUntaken (state_of site.old) os (state_of site.new) why) }
-    ensures needed { OnErr result (HasFrame bytes.now) }
+    ensures needed { OnErr result (HasFrame Two bytes.now) }
 {
     let mut room = Vec::new(alloc);
     let mut left = bytes;

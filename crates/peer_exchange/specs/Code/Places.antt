@@ -25,7 +25,7 @@ pub record Stands (which : Which) (bytes : List ℕ) (place : Place) : Type 0 wh
 abbrev pub Fits : ℕ → Piece → Type 0
 Fits n (part.Got next used) = used ≤ n
 Fits n (part.Whole used) = used ≤ n
-Fits n (part.More k) = k < 2 ^ 35
+Fits n (part.More k) = k < 2 ^ 36
 Fits n (part.Bad offset cause) = offset ≤ n
 
 -- the place after the part, or what the bytes say from the place on

@@ -5,6 +5,7 @@ use Rattle.context_diff.specs.Operations.{OpData}
 use Rattle.context_diff.specs.declared.op.Op.{Op}
 use Rattle.context_diff.specs.Ops.{data_of}
 use Rattle.cot_site.specs.States.{State}
+use Rattle.wire_codec.specs.declared.version.Version.TheVariants.{Two}
 use Rattle.wire_codec.specs.Spelling.{frame}
 use Rattle.wire_codec.specs.Judging.{length_of}
 use Rattle.wire_codec.specs.States.{IsState}
@@ -34,7 +35,7 @@ abbrev pub IsFirstOf : List ℕ → List OpData → Option (Op × ℕ) → Type 
 IsFirstOf bytes [] None = Unit {0}
 IsFirstOf bytes [] (Some p) = ⊥
 IsFirstOf bytes (o ∷ os) None = ⊥
-IsFirstOf bytes (o ∷ os) (Some p) = (data_of p.0 ≡ o) × (p.1 ≡ length (frame o))
+IsFirstOf bytes (o ∷ os) (Some p) = (data_of p.0 ≡ o) × (p.1 ≡ length (frame Two o))
 
 -- the state that a second message tells, and the place at which its frames begin
 pub record IsToldUpTo (second : List ℕ) (state : ContextData) (at : ℕ) : Type 0 where
