@@ -13,7 +13,7 @@ use Rattle.session_replay.specs.declared.generator.TheConstants.{MAX_EVENTS, MAX
 use Rattle.log_replies.specs.Editing.{EditData, Ins, Run, Nl, Del, Undo, Redo}
 use Rattle.cotpad_run.specs.declared.command.Command.{Command}
 use Rattle.cotpad_run.specs.declared.command.TheConstants.{MAX_PORT}
-use Rattle.cotpad_run.specs.Commands.{CommandData, Replay, Show, Edit, Gen, Explain, Where, Find, At, Playback, Serve, Join, Loop, Help, DashedHelp, command_data}
+use Rattle.cotpad_run.specs.Commands.{CommandData, Replay, Show, Edit, Upgrade, Gen, Explain, Where, Find, At, Playback, Serve, Join, Loop, Help, DashedHelp, command_data}
 use Rattle.cotpad_run.specs.Words.{edit_words, command_words, IsEditInRange, IsPort, IsInRange, Spells}
 use Rattle.cotpad_run.specs.Code.Reading.{first_in, one_in, alone_in, text_in, placed_in, nl_in, del_in, undo_in, redo_in, edit_row, edit_in, gen_in, gen_of, explain_in, where_in, find_in, at_in, port_of, port_in, loop_in, command_row, command_in}
 
@@ -159,6 +159,12 @@ editing_from parts c h =
     first_some parts p.0 p.1 ∙ ap (λ x. x ∷ p.0.1) site.0 ∙ ap (λ xs. decimal s.0 ∷ xs) (first_some p.0.1 q.0 q.1 ∙ edit.0) in
     subst (λ x. (codes "edit" ∷ parts ≡ command_words x) × IsInRange x) (some_is (Edit s.0 e.0) c e.2)
     (ap (λ xs. codes "edit" ∷ xs) spelled, (site.1, edit.1))
+
+upgrade_from : (parts : List (List ℕ)) (c : CommandData) → alone_in Upgrade parts ≡ Some c → IsCommand (codes "upgrade" ∷ parts) c
+unfolding IsCommand
+upgrade_from parts c h =
+    let a = alone_some Upgrade c parts h in
+    subst (λ x. (codes "upgrade" ∷ parts ≡ command_words x) × IsInRange x) a.1 (ap (λ xs. codes "upgrade" ∷ xs) a.0, tt)
 
 gen_of_some : (start events window : ℕ) (c : CommandData) → gen_of start events window ≡ Some c
     → (events ≤ MAX_EVENTS) × (1 ≤ window) × (window ≤ MAX_WINDOW) × (Gen start events window ≡ c)
@@ -346,6 +352,7 @@ command_from ws c h =
     (row_or IsCommand p.0.0 (codes "replay") parts c (alone_in Replay parts) _ (replay_from parts c)
     (row_or IsCommand p.0.0 (codes "show") parts c (alone_in Show parts) _ (show_from parts c)
     (row_or IsCommand p.0.0 (codes "edit") parts c (edit_in parts) _ (editing_from parts c)
+    (row_or IsCommand p.0.0 (codes "upgrade") parts c (alone_in Upgrade parts) _ (upgrade_from parts c)
     (row_or IsCommand p.0.0 (codes "gen") parts c (gen_in parts) _ (gen_from parts c)
     (row_or IsCommand p.0.0 (codes "explain") parts c (explain_in parts) _ (explain_from parts c)
     (row_or IsCommand p.0.0 (codes "where") parts c (where_in parts) _ (where_from parts c)
@@ -356,13 +363,14 @@ command_from ws c h =
     (row_or IsCommand p.0.0 (codes "join") parts c (option_map Join (port_in parts)) _ (join_from parts c)
     (row_or IsCommand p.0.0 (codes "loop") parts c (loop_in parts) _ (loop_from parts c)
     (row_or IsCommand p.0.0 (codes "help") parts c (alone_in Help parts) _ (help_from parts c)
-    (row_or IsCommand p.0.0 (codes "--help") parts c (alone_in DashedHelp parts) None (dashed_help_from parts c) (λ never. cc))))))))))))))
+    (row_or IsCommand p.0.0 (codes "--help") parts c (alone_in DashedHelp parts) None (dashed_help_from parts c) (λ never. cc)))))))))))))))
     p.2)
 
 command_to : (c : CommandData) → IsInRange c → command_in (command_words c) ≡ Some c
 unfolding command_in command_row edit_in edit_row placed_in nl_in del_in undo_in redo_in gen_in explain_in where_in find_in at_in loop_in
 command_to Replay r = refl
 command_to Show r = refl
+command_to Upgrade r = refl
 command_to Help r = refl
 command_to DashedHelp r = refl
 command_to (Gen start events window) r =

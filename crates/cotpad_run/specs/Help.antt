@@ -12,6 +12,7 @@ help_text =
     ++ (codes "cotpad edit SITE del V             reads a log, deletes the shown character V, from 0, and writes the new log\n"
     ++ (codes "cotpad edit SITE undo NAME         reads a log, undoes an insert or delete, whoever made it, and writes the new log\n"
     ++ (codes "cotpad edit SITE redo NAME         the same with a redo, whoever undid it\n"
+    ++ (codes "cotpad upgrade                     reads a log of version 1 or 2, and writes it in version 2\n"
     ++ (codes "cotpad explain MEMBER              reads a log, and writes how the form of an operation is derived\n"
     ++ (codes "cotpad where V                     reads a log, and writes the line and column after V shown characters\n"
     ++ (codes "cotpad find L C                    reads a log, and writes after how many shown characters line L column C is\n"
@@ -21,4 +22,4 @@ help_text =
     ++ (codes "cotpad join PORT                   reads a log, exchanges with who waits at the port, and writes the new log\n"
     ++ (codes "cotpad loop START                  lets two sites exchange over a connection, and writes what went\n"
     ++ (codes "cotpad gen START EVENTS WINDOW     generates a session of four sites, and writes what it did\n"
-    ++ (codes "cotpad help                        writes these lines\n")))))))))))))))))
+    ++ (codes "cotpad help                        writes these lines\n"))))))))))))))))))

@@ -3,9 +3,9 @@ use Rattle.std.specs.Prelude.{◌≡◌, ◌+◌}
 use Rattle.outside_io.specs.declared.reading.TheConstants.{MAX_INPUT}
 use Rattle.op_name.specs.declared.member.TheConstants.{GENERATIONS}
 use Rattle.op_name.specs.declared.name.TheConstants.{SITES, NUMBERS}
-use Rattle.context_diff.specs.declared.letters.TheConstants.{LETTERS}
+use Rattle.op_name.specs.declared.limits.TheConstants.{LETTERS}
 use Rattle.context_diff.specs.declared.op.TheConstants.{PLACES, UNDO_ENTRIES}
-use Rattle.wire_codec.specs.declared.rules.TheConstants.{LONGEST_BODY}
+use Rattle.wire_codec.specs.declared.rules.TheConstants.{LONGEST_BODY, LONGEST_BODY_TWO}
 use Rattle.script_text.specs.declared.reading.parse.TheConstants.{LONGEST}
 use Rattle.script_text.specs.declared.reading.stream.TheConstants.{MAX_SCRIPT}
 use Rattle.session_log.specs.declared.reading.TheConstants.{MAX_LOG}
@@ -28,17 +28,19 @@ pub record AreLimitsOfCommands : Type 0 where
 -- how many sites there are; how many inserts and deletes one of them makes, how often one of these is undone and redone, and of how many
 -- names a context tells undos; the most characters of an insert; and the greatest place that an operation names
 pub record AreLimitsOfOperations : Type 0 where
-  pub sites : SITES ≡ 64
+  pub sites : SITES ≡ 1024
   pub numbers : NUMBERS ≡ 1000000
   pub generations : GENERATIONS ≡ 65535
   pub undone : UNDO_ENTRIES ≡ 16384
   pub letters : LETTERS ≡ 256
   pub places : PLACES ≡ 4294967295
 
--- the most bytes of a line, of a frame, which is a length of four bytes and a body, of an input, a script and a log, and of a message
+-- the most bytes of a line, of a frame of either version, which is a length of four bytes and a body, of an input, a script and a log,
+-- and of a message
 pub record AreLimitsOfBytes : Type 0 where
   pub line : LONGEST ≡ 262144
-  pub frame : 4 + LONGEST_BODY ≡ 116051
+  pub frame_of_one : 4 + LONGEST_BODY ≡ 116051
+  pub frame_of_two : 4 + LONGEST_BODY_TWO ≡ 171029
   pub input : MAX_INPUT ≡ 67108864
   pub script : MAX_SCRIPT ≡ 67108864
   pub log : MAX_LOG ≡ 67108864

@@ -14,9 +14,9 @@ use Rattle.log_replies.specs.Explaining.{IsExplained}
 use Rattle.log_replies.specs.Outside.{Outside, Grows}
 use Rattle.log_replies.specs.PastTexts.{IsShownAt}
 use Rattle.log_replies.specs.PlayedTexts.{IsPlayedBack}
-use Rattle.log_replies.specs.Replies.{IsShown, IsEdited}
+use Rattle.log_replies.specs.Replies.{IsShown, IsEdited, IsUpgraded}
 use Rattle.log_replies.specs.Statuses.{IsReported}
-use Rattle.cotpad_run.specs.Commands.{CommandData, Replay, Show, Edit, Gen, Explain, Where, Find, At, Playback, Serve, Join, Loop, Help, DashedHelp}
+use Rattle.cotpad_run.specs.Commands.{CommandData, Replay, Show, Edit, Upgrade, Gen, Explain, Where, Find, At, Playback, Serve, Join, Loop, Help, DashedHelp}
 use Rattle.cotpad_run.specs.Generating.{IsGenerated}
 use Rattle.cotpad_run.specs.Help.{help_text}
 use Rattle.cotpad_run.specs.Looping.{IsLoopAnswered}
@@ -95,6 +95,7 @@ row_of Replay =
     record { answers = λ old new. IsReplayed old.outside new.outside; reads = true; streams = true; link = None; matched = λ _. Unit {0} }
 row_of Show = replying IsShown
 row_of (Edit site edit) = replying (IsEdited site edit)
+row_of Upgrade = replying IsUpgraded
 row_of (Explain m) = replying (IsExplained m)
 row_of (Where place) = replying (IsLocated place)
 row_of (Find line column) = replying (IsFound line column)

@@ -12,7 +12,7 @@ use Rattle.log_replies.specs.Outside.{Outside, IsWritten, IsCutOff}
 use Rattle.log_replies.specs.declared.status.Status.{Status}
 use Rattle.log_replies.specs.declared.status.Status.TheVariants.{Done, Refused, Words, ReadFault, WriteFault, Memory, LinkFault, PeerRefused}
 use Rattle.cotpad_run.specs.declared.command.TheConstants.{MAX_PORT}
-use Rattle.cotpad_run.specs.Commands.{CommandData, Replay, Show, Edit, Gen, Explain, Where, Find, At, Playback, Serve, Join, Loop, Help, DashedHelp}
+use Rattle.cotpad_run.specs.Commands.{CommandData, Replay, Show, Edit, Upgrade, Gen, Explain, Where, Find, At, Playback, Serve, Join, Loop, Help, DashedHelp}
 
 -- the words of an edit, after its site: a row for each. A text is one word
 abbrev pub edit_words : EditData → List (List ℕ)
@@ -28,6 +28,7 @@ abbrev pub command_words : CommandData → List (List ℕ)
 command_words Replay = codes "replay" ∷ []
 command_words Show = codes "show" ∷ []
 command_words (Edit site edit) = codes "edit" ∷ decimal site ∷ edit_words edit
+command_words Upgrade = codes "upgrade" ∷ []
 command_words (Gen start events window) = codes "gen" ∷ decimal start ∷ decimal events ∷ decimal window ∷ []
 command_words (Explain m) = codes "explain" ∷ member_text m ∷ []
 command_words (Where place) = codes "where" ∷ decimal place ∷ []
@@ -58,6 +59,7 @@ abbrev pub IsInRange : CommandData → Type 0
 IsInRange Replay = Unit {0}
 IsInRange Show = Unit {0}
 IsInRange (Edit site edit) = (site < SITES) × IsEditInRange edit
+IsInRange Upgrade = Unit {0}
 IsInRange (Gen start events window) = (start < 2 ^ 64) × (events ≤ MAX_EVENTS) × (1 ≤ window) × (window ≤ MAX_WINDOW)
 IsInRange (Explain m) = IsMemberInRange m
 IsInRange (Where place) = place < 2 ^ 32

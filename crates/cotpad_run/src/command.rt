@@ -28,6 +28,8 @@ pub enum Command<'a> {
         site: u16,
         edit: Edit<'a>,
     },
+    /// `upgrade`: reads a log of either version, and writes it in version 2.
+    Upgrade,
     /// `gen START EVENTS WINDOW`: generates a session of four sites, and writes what it did and shows.
     Gen {
         start: u64,
@@ -94,6 +96,7 @@ fn command_row<'a>(word: &str, parts: &'a [String]) -> Option<Command<'a>>
         "replay" => replay_of(parts),
         "show" => show_of(parts),
         "edit" => edit_of(parts),
+        "upgrade" => upgrade_of(parts),
         "gen" => gen_of(parts),
         "explain" => explain_of(parts),
         "where" => where_of(parts),
@@ -218,6 +221,16 @@ fn redo_of(parts: &[String]) -> Option<Edit<'_>>
 {
     let name = parse_name(one(parts)?)?;
     Some(Edit::Redo { name })
+}
+
+fn upgrade_of(parts: &[String]) -> Option<Command<'_>>
+    ensures { option_map command_data result ≡ alone_in asked.Upgrade (map string_bytes parts.now) }
+{
+    if parts.is_empty() {
+        Some(Command::Upgrade)
+    } else {
+        None
+    }
 }
 
 // `START EVENTS WINDOW`

@@ -17,6 +17,7 @@ cotpad edit SITE nl V              the same with a line feed\n\
 cotpad edit SITE del V             reads a log, deletes the shown character V, from 0, and writes the new log\n\
 cotpad edit SITE undo NAME         reads a log, undoes an insert or delete, whoever made it, and writes the new log\n\
 cotpad edit SITE redo NAME         the same with a redo, whoever undid it\n\
+cotpad upgrade                     reads a log of version 1 or 2, and writes it in version 2\n\
 cotpad explain MEMBER              reads a log, and writes how the form of an operation is derived\n\
 cotpad where V                     reads a log, and writes the line and column after V shown characters\n\
 cotpad find L C                    reads a log, and writes after how many shown characters line L column C is\n\

@@ -20,8 +20,8 @@ use crate::looped::answer_looped;
 use crate::meeting::{Joining, Serving, answer_met};
 use crate::replay::answer_replay;
 use log_replies::{
-    Editing, Explaining, Finding, Locating, Show, ShowingPast, Status, answer, answer_played,
-    one_explanation, one_past, one_reply,
+    Editing, Explaining, Finding, Locating, Show, ShowingPast, Status, Upgrading, answer,
+    answer_played, one_explanation, one_past, one_reply,
 };
 use outside_io::{Failed, Sink, Source, Wire, write_whole};
 use std::alloc::Global;
@@ -29,6 +29,7 @@ use std::alloc::Global;
 /// Does what the words say, which are those after the program's name. `replay` reads a script, and writes the report of each
 /// line before it reads on. `show` reads a log, and writes its text. `edit SITE ins V TEXT`, `edit SITE run V TEXT`, `edit SITE nl V`,
 /// `edit SITE del V`, `edit SITE undo NAME` and `edit SITE redo NAME` read a log, edit it as this site, and write the log of the result.
+/// `upgrade` reads a log of version 1 or 2, and writes it in version 2. Neither writes a log that is too long to be read again.
 /// `gen START EVENTS WINDOW` reads nothing, generates a session of four sites, and writes what it did and what site 0 shows.
 /// `explain MEMBER` reads a log, and writes the steps that derive the form in which the operation of this member was executed.
 /// `where V` reads a log, and writes the line and the column of the place after so many shown characters; `find L C` reads one,
@@ -61,7 +62,7 @@ pub fn run<S: Source, K: Sink, W: Wire>(
 
     // Histories of the same operations, in whatever order they came, show the same text.
     ensures same { (h k : List OpData) → IsValid h → IsValid k → Same h k → text_of h ≡ text_of k }
-    // The bytes of a log decide what `show`, `edit`, `where`, `find` and `playback` reply, and what `explain` and `at` do.
+    // The bytes of a log decide what `show`, `edit`, `upgrade`, `where`, `find` and `playback` reply, and what `explain` and `at` do.
     ensures one_reply { OneReply }
     ensures one_explanation { OneExplanation }
     ensures one_past { OnePast }
@@ -84,6 +85,7 @@ pub fn run<S: Source, K: Sink, W: Wire>(
         Some(Command::Replay) => answer_replay(alloc, source, sink),
         Some(Command::Show) => answer(alloc, &Show, source, sink),
         Some(Command::Edit { site, edit }) => answer(alloc, &Editing { site, edit }, source, sink),
+        Some(Command::Upgrade) => answer(alloc, &Upgrading, source, sink),
         Some(Command::Explain { member }) => answer(alloc, &Explaining { member }, source, sink),
         Some(Command::Where { place }) => answer(alloc, &Locating { place }, source, sink),
         Some(Command::Find { line, column }) => answer(

@@ -5,4 +5,5 @@ pub mod OneReply
 pub mod PastReplies
 pub mod Playing
 pub mod Traces
+pub mod WrittenLogs
 pub mod CallerLemmas

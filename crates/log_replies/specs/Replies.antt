@@ -1,5 +1,5 @@
 -- What the commands that load their input as a log reply.
-use Rattle.std.specs.Prelude.{◌≡◌, ◌≢◌, ◌⊎◌, ◌<◌, ◌≤◌, ℕ, true, false, List, ◌++◌, codes, length, Result, Ok, Err}
+use Rattle.std.specs.Prelude.{◌≡◌, ◌≢◌, ◌⊎◌, ◌<◌, ◌≤◌, ℕ, true, false, List, ◌++◌, codes, decimal, length, nat_le, if◌then◌else◌, Result, Ok, Err}
 use Rattle.context_diff.specs.Replays.{text_of, characters_of}
 use Rattle.cot_site.specs.States.{State}
 use Rattle.site_answers.specs.declared.local.Local.{Local}
@@ -8,6 +8,7 @@ use Rattle.script_text.specs.Report.{Report, shown_text}
 use Rattle.script_text.specs.Verdicts.{local_text}
 use Rattle.session_log.specs.declared.log_bad.LogBad.{LogBad}
 use Rattle.session_log.specs.declared.log_bad.LogBad.TheVariants as bad
+use Rattle.session_log.specs.declared.reading.TheConstants.{MAX_LOG}
 use Rattle.session_log.specs.Logs.{log_of}
 use Rattle.session_log.specs.Loadings.{IsLoaded, IsUnloaded}
 use Rattle.session_log.specs.Words.{refused_log_text}
@@ -55,13 +56,27 @@ shown_reply s = accepting (shown_text (length (characters_of s.history)) (text_o
 abbrev pub IsShown : List ℕ → Report → Type 0
 IsShown = RepliesToLog 0 shown_reply
 
+-- `refused toolong LEN` and a line feed
+abbrev pub too_long_text : ℕ → List ℕ
+too_long_text len = codes "refused toolong " ++ (decimal len ++ codes "\n")
+
+-- the log of the state; where it has more bytes than are read again, nothing of it, but how many
+abbrev pub log_reply : State → Report
+log_reply s =
+    if nat_le (length (log_of s.history s.waiting)) MAX_LOG then accepting (log_of s.history s.waiting)
+    else refusing (too_long_text (length (log_of s.history s.waiting)))
+
+-- `upgrade`: the log of the site that was loaded, which is of version 2
+abbrev pub IsUpgraded : List ℕ → Report → Type 0
+IsUpgraded = RepliesToLog 0 log_reply
+
 -- `refused no REASON` and a line feed
 abbrev pub refused_edit_text : Local → List ℕ
 refused_edit_text why = codes "refused " ++ local_text why
 
 -- `edit`: the log of the edited site; nothing of it where an operation is refused, but why
 abbrev pub edit_reply : Result State Local → Report
-edit_reply (Ok s) = accepting (log_of s.history s.waiting)
+edit_reply (Ok s) = log_reply s
 edit_reply (Err why) = refusing (refused_edit_text why)
 
 abbrev pub IsEdited : ℕ → EditData → List ℕ → Report → Type 0

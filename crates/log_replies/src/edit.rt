@@ -9,12 +9,12 @@ ghost use Rattle.log_replies.specs.Replies.{IsEdited, edit_reply, refused_edit_t
 ghost use Rattle.log_replies.specs.Code.Editing.{IsDone, IsEditReply, ended, reason_of};
 
 use crate::replying::Replies;
+use crate::written::put_log;
 use context_diff::Letters;
 use cot_site::{Local, Release, Site};
 use op_name::{Memory, Name};
 use participant::{Edit as One, Stopped};
 use script_text::local_line;
-use session_log::write_log;
 use std::alloc::Global;
 
 /// What is done at a site. Places count shown characters.
@@ -36,7 +36,7 @@ pub enum Edit<'a> {
 }
 
 /// Loads a log as this site, does the edit there, and writes the log of the site. Where an operation of the edit is
-/// refused, all of it is, and no log is written.
+/// refused, all of it is, and no log is written; nor is one that is too long to be read again.
 #[derive(Drop)]
 pub struct Editing<'a> {
     pub site: u16,
@@ -73,10 +73,7 @@ fn edit_log(
     ensures { IfOk result (IsEditReply (edited (state_of site.old) (edit_data edit.now)) out.old.items out.new.items) }
 {
     match do_edit(alloc, site, edit) {
-        Ok(()) => {
-            write_log(site, out)?;
-            Ok(false)
-        }
+        Ok(()) => put_log(site, out),
         Err(Local::Memory) => Err(Memory),
         Err(why) => {
             refuse_edit(why, out)?;

@@ -5,7 +5,7 @@ use Rattle.script_text.specs.Fields.{number_of, long_of, site_of, name_of, membe
 use Rattle.script_text.specs.Sets.{set_of}
 use Rattle.log_replies.specs.Editing.{EditData, Ins, Run, Nl, Del, Undo, Redo}
 use Rattle.cotpad_run.specs.declared.command.TheConstants.{MAX_PORT}
-use Rattle.cotpad_run.specs.Commands.{CommandData, Replay, Show, Edit, Gen, Explain, Where, Find, At, Playback, Serve, Join, Loop, Help, DashedHelp}
+use Rattle.cotpad_run.specs.Commands.{CommandData, Replay, Show, Edit, Upgrade, Gen, Explain, Where, Find, At, Playback, Serve, Join, Loop, Help, DashedHelp}
 
 -- the first word and the others, if there is one
 abbrev pub first_in : List (List ℕ) → Option (List ℕ × List (List ℕ))
@@ -143,6 +143,7 @@ command_row word parts =
     if bytes_eq word (codes "replay") then alone_in Replay parts
     else (if bytes_eq word (codes "show") then alone_in Show parts
     else (if bytes_eq word (codes "edit") then edit_in parts
+    else (if bytes_eq word (codes "upgrade") then alone_in Upgrade parts
     else (if bytes_eq word (codes "gen") then gen_in parts
     else (if bytes_eq word (codes "explain") then explain_in parts
     else (if bytes_eq word (codes "where") then where_in parts
@@ -154,7 +155,7 @@ command_row word parts =
     else (if bytes_eq word (codes "loop") then loop_in parts
     else (if bytes_eq word (codes "help") then alone_in Help parts
     else (if bytes_eq word (codes "--help") then alone_in DashedHelp parts
-    else None)))))))))))))
+    else None))))))))))))))
 
 -- the command that these words spell, if they spell one
 unfoldable pub command_in : List (List ℕ) → Option CommandData

@@ -21,7 +21,8 @@ returns c = record {
   };
   bytes = record {
     line = refl;
-    frame = refl;
+    frame_of_one = refl;
+    frame_of_two = refl;
     input = refl;
     script = refl;
     log = refl;

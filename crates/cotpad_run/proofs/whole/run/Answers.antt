@@ -68,6 +68,24 @@ returns-in-Some-Edit-clause-unread g c = λ none.
     let is : k.field-0 ≡ command.Edit k.site k.edit = cc in
     absurd (not_of Reads k.field-0 (command.Edit k.site k.edit) is (none (command_data k.field-0) k.ensures.found) refl)
 
+pub returns-in-Some-Upgrade-clause-run : goal.returns-in-Some-Upgrade-clause-run
+returns-in-Some-Upgrade-clause-run g c =
+    let k = c.in-Some-Upgrade in
+    let f = k.field-0-is in
+    let is : k.field-0 ≡ command.Upgrade = cc in
+    record {
+      done = λ asked spelled. same_row k.field-0 (command.Upgrade) asked _ _ _ is (k.ensures.only asked spelled)
+          (replying_done _ _ _ _ c.answer-in-Some-Upgrade.ensures.answer refl);
+      wrong = λ none. absurd (none (command_data k.field-0) k.ensures.found);
+    }
+
+pub returns-in-Some-Upgrade-clause-unread : goal.returns-in-Some-Upgrade-clause-unread
+returns-in-Some-Upgrade-clause-unread g c = λ none.
+    let k = c.in-Some-Upgrade in
+    let f = k.field-0-is in
+    let is : k.field-0 ≡ command.Upgrade = cc in
+    absurd (not_of Reads k.field-0 (command.Upgrade) is (none (command_data k.field-0) k.ensures.found) refl)
+
 pub returns-in-Some-Explain-clause-run : goal.returns-in-Some-Explain-clause-run
 returns-in-Some-Explain-clause-run g c =
     let k = c.in-Some-Explain in
