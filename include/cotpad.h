@@ -37,16 +37,16 @@ extern "C" {
 #endif
 
 /* The version of this header. cotpad_version() tells that of the library: begin by comparing them. */
-#define COTPAD_VERSION 2u
+#define COTPAD_VERSION 3u
 
 /* The bytes of the longest frame: what cotpad_frame needs at most. */
-#define COTPAD_LONGEST_FRAME 116051u
+#define COTPAD_FRAME_MAX 171029u
 
 /* What a call answers. */
 typedef uint32_t cotpad_status;
 #define COTPAD_OK 0u
 #define COTPAD_NO_MEMORY 1u       /* out of memory; the call may be made again */
-#define COTPAD_SITE_OUT 2u        /* the number of the site is above 63 */
+#define COTPAD_SITE_OUT 2u        /* the number of the site is above 1,023 */
 #define COTPAD_PLACE_OUT 3u       /* the text has no such place */
 #define COTPAD_NO_CHARACTER 4u    /* the number is no Unicode scalar value, or the bytes are no UTF-8 */
 #define COTPAD_UNKNOWN 5u         /* the site has integrated no insert or delete of this name; or it lacks this member of a set */
@@ -55,7 +55,7 @@ typedef uint32_t cotpad_status;
 #define COTPAD_GENERATION_FULL 8u /* it was undone and redone 65,535 times, as often as can be */
 #define COTPAD_NUMBER_FULL 9u     /* the site has made 1,000,000 inserts and deletes */
 #define COTPAD_CONTEXT_FULL 10u   /* more than 16,384 inserts and deletes were undone */
-#define COTPAD_NO_NAME 11u        /* a site above 63, or a number that is 0 or above 1,000,000 */
+#define COTPAD_NO_NAME 11u        /* a site above 1,023, or a number that is 0 or above 1,000,000 */
 #define COTPAD_NONE 12u           /* there is none: no operation at this index, none to release, no character at this place; or, of
                                    * cotpad_text_before, the index is above the number of operations */
 #define COTPAD_TOO_SHORT 13u      /* the buffer is too short: *needed says how many bytes it takes */
@@ -181,7 +181,7 @@ COTPAD_LAYOUT(sizeof(size_t) == 8);
 
 uint32_t cotpad_version(void);
 
-/* Makes a site of this number, 0 to 63, that has done nothing, in an empty handle; no two sites of a session have one
+/* Makes a site of this number, 0 to 1,023, that has done nothing, in an empty handle; no two sites of a session have one
  * number: what two such sites make under one name is forged where it is delivered, and an exchange doesn't notice it. Else
  * COTPAD_SITE_OUT or COTPAD_NO_MEMORY, and the handle stays empty. */
 cotpad_status cotpad_open(cotpad_site *site, uint32_t number);

@@ -110,7 +110,7 @@ static void must(cotpad_status status) {
 
 /* Sends the operations of a site from this index on. */
 static void send_from(cotpad_site *from, uint32_t index, cotpad_site *to) {
-    static uint8_t frame[COTPAD_LONGEST_FRAME];
+    static uint8_t frame[COTPAD_FRAME_MAX];
     cotpad_verdict verdict = {0};
     size_t count = 0;
     for (; index < cotpad_operations(from); index++) {

@@ -53,7 +53,7 @@ static uint8_t *bytes_of(cotpad_site *site, writer *write, size_t *count) {
  * it released, which stands behind it; those who have that already answer that it is a repeat. Where a receiver compares the author
  * of a frame with its sender, send only those with frame[5] == from. */
 static void send_from(person *people, int from, uint32_t start) {
-    static uint8_t frame[COTPAD_LONGEST_FRAME];
+    static uint8_t frame[COTPAD_FRAME_MAX];
     cotpad_site *site = &people[from].site;
     for (uint32_t i = start; i < cotpad_operations(site); i++) {
         size_t count = 0;
@@ -194,7 +194,7 @@ static void leave_and_come_back(cotpad_site *site, uint32_t number) {
 }
 
 /* The frame of the insert 0.1 of a letter at the front of an empty text. */
-#define FIRST(letter) 0, 0, 0, 17, 1, 0, 0, 0, 0, 1, 0, 0, 0, 0, 0, 0, 0, letter, 0, 0, 0
+#define FIRST(letter) 0, 0, 0, 19, 1, 0, 0, 0, 0, 0, 1, 0, 0, 0, 0, 0, 0, 0, letter, 0, 0, 0, 0
 
 static void tell_load(const char *what, const uint8_t *bytes, size_t count) {
     cotpad_site site = COTPAD_SITE_EMPTY;
@@ -205,9 +205,9 @@ static void tell_load(const char *what, const uint8_t *bytes, size_t count) {
 }
 
 static void refused_logs(void) {
-    const uint8_t head[] = "COTLOG2\n", good[] = {'C', 'O', 'T', 'L', 'O', 'G', '1', '\n', FIRST('a')};
-    const uint8_t bad[] = {'C', 'O', 'T', 'L', 'O', 'G', '1', '\n', FIRST('a'), 0, 0, 0, 4, 9, 9, 9, 9};
-    const uint8_t forged[] = {'C', 'O', 'T', 'L', 'O', 'G', '1', '\n', FIRST('a'), FIRST('b')};
+    const uint8_t head[] = "COTLOG3\n", good[] = {'C', 'O', 'T', 'L', 'O', 'G', '2', '\n', FIRST('a')};
+    const uint8_t bad[] = {'C', 'O', 'T', 'L', 'O', 'G', '2', '\n', FIRST('a'), 0, 0, 0, 4, 9, 9, 9, 9};
+    const uint8_t forged[] = {'C', 'O', 'T', 'L', 'O', 'G', '2', '\n', FIRST('a'), FIRST('b')};
     tell_load("of an operation", good, sizeof good);
     tell_load("of another kind", head, sizeof head - 1);
     tell_load("that is cut", good, sizeof good - 1);
@@ -216,9 +216,9 @@ static void refused_logs(void) {
 }
 
 static void refused_messages(cotpad_site *site) {
-    const uint8_t other[] = {'C', 'O', 'T', 'L', 'O', 'G', '1', '\n', 0, 0, 0, 0, 0};
-    const uint8_t none[] = {'C', 'O', 'T', 'V', 'E', 'C', '1', '\n', 0, 0, 0, 0, 0}; /* of a site that has nothing */
-    const uint8_t more[] = {'C', 'O', 'T', 'V', 'E', 'C', '1', '\n', 0, 0, 0, 0, 0, 0};
+    const uint8_t other[] = {'C', 'O', 'T', 'L', 'O', 'G', '2', '\n', 0, 0, 0, 0, 0, 0};
+    const uint8_t none[] = {'C', 'O', 'T', 'V', 'E', 'C', '2', '\n', 0, 0, 0, 0, 0, 0}; /* of a site that has nothing */
+    const uint8_t more[] = {'C', 'O', 'T', 'V', 'E', 'C', '2', '\n', 0, 0, 0, 0, 0, 0, 0};
     const uint8_t forged[] = {FIRST('b'), 0, 0, 0, 0};
     static uint8_t out[4096];
     size_t needed = 0;
@@ -238,8 +238,8 @@ static void refused_messages(cotpad_site *site) {
 static void refusals(person *people) {
     cotpad_site *site = &people[0].site, none = COTPAD_SITE_EMPTY;
     cotpad_status place = cotpad_delete(site, 99), after = cotpad_insert(site, 99, 'x');
-    cotpad_status character = cotpad_insert(site, 0, 0xD800), site_out = cotpad_open(&none, 64);
-    cotpad_status unknown = cotpad_undo(site, 9, 9), name = cotpad_undo(site, 64, 1), force = cotpad_redo(site, 0, 3);
+    cotpad_status character = cotpad_insert(site, 0, 0xD800), site_out = cotpad_open(&none, 1024);
+    cotpad_status unknown = cotpad_undo(site, 9, 9), name = cotpad_undo(site, 1024, 1), force = cotpad_redo(site, 0, 3);
     printf("refused: place %u %u, character %u, site %u, unknown %u, name %u, in force %u\n", place, after, character,
         site_out, unknown, name, force);
     const uint8_t latin[] = {'c', 0xE9}, *text = (const uint8_t *)"x";

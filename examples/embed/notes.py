@@ -1,12 +1,12 @@
 """Three people write one note: what notes.c does, from Python."""
 from cotpad import CotpadError, Kind, NotTaken, Site
 
-LOG, MESSAGE = b"COTLOG1\n", b"COTVEC1\n"
+LOG, MESSAGE = b"COTLOG2\n", b"COTVEC2\n"
 
 
 def first(letter):
     """The frame of the insert 0.1 of a letter at the front of an empty text."""
-    return bytes([0, 0, 0, 17, 1, 0, 0, 0, 0, 1, 0, 0, 0, 0, 0, 0, 0, ord(letter), 0, 0, 0])
+    return bytes([0, 0, 0, 19, 1, 0, 0, 0, 0, 0, 1, 0, 0, 0, 0, 0, 0, 0, ord(letter), 0, 0, 0, 0])
 
 
 def send(frames, inboxes, author):
@@ -81,18 +81,18 @@ def main():
     refused("a place for a text", sites[0].insert, 99, "x")
     refused("a name at a place", sites[0].name_at, 99)
     refused("a character", sites[0].insert, 0, "\ud800")
-    refused("a site", Site, 64)
+    refused("a site", Site, 1024)
     refused("an unknown name", sites[0].undo, (9, 9))
-    refused("no name", sites[0].undo, (64, 1))
+    refused("no name", sites[0].undo, (1024, 1))
     refused("what is in force", sites[0].redo, (0, 3))
     refused("bad bytes", sites[0].receive, bytes([0, 0, 0, 4, 9, 9, 9, 9]))
-    refused("a log of another kind", Site.load, 0, b"COTLOG2\n")
+    refused("a log of another kind", Site.load, 0, b"COTLOG3\n")
     refused("a log that is cut", Site.load, 0, (LOG + first("a"))[:-1])
     refused("a log with a bad frame", Site.load, 0, LOG + first("a") + bytes([0, 0, 0, 4, 9, 9, 9, 9]))
     refused("a log with two inserts of one name", Site.load, 0, LOG + first("a") + first("b"))
-    refused("no first message", sites[0].answer, LOG + bytes(5))
-    refused("a cut one", sites[0].answer, MESSAGE + bytes(4))
-    refused("a byte too many", sites[0].answer, MESSAGE + bytes(6))
+    refused("no first message", sites[0].answer, LOG + bytes(6))
+    refused("a cut one", sites[0].answer, MESSAGE + bytes(5))
+    refused("a byte too many", sites[0].answer, MESSAGE + bytes(7))
     refused("another 0.1", sites[0].finish, first("b") + bytes(4))
     pieces = sites[1].frame(0)
     print("a frame in two pieces:", sites[0].receive(pieces[:5]), sites[0].receive(pieces[5:])[0].became.name.lower())

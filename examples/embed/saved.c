@@ -63,7 +63,7 @@ static void must(int done, const char *what) {
 
 /* Stores what Ann did, and only then sends it. */
 static void save_and_send(int folder) {
-    static uint8_t frame[COTPAD_LONGEST_FRAME];
+    static uint8_t frame[COTPAD_FRAME_MAX];
     cotpad_verdict verdict = {0};
     size_t count = 0;
     if (save_to(&ann, folder, LOG) != 0) {

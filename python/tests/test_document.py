@@ -183,7 +183,7 @@ def test_files_that_are_no_document(path, tmp_path):
     assert why.value.status is Status.CUT
     path.unlink()
     with pytest.raises(Refused):
-        Document.create(path, 64)
+        Document.create(path, 1024)
     assert not path.exists()
 
 

@@ -125,7 +125,7 @@ def test_refusals(sites):
     refused(Status.PLACE_OUT, site.delete, 1, -1)
     refused(Status.NO_CHARACTER, site.insert, 0, "x\ud800")
     refused(Status.UNKNOWN, site.undo, (9, 9))
-    refused(Status.NO_NAME, site.undo, (64, 1))
+    refused(Status.NO_NAME, site.undo, (1024, 1))
     refused(Status.NO_NAME, site.redo, (0, 0))
     refused(Status.NO_NAME, site.undo, (1 << 16, 1))
     refused(Status.NO_NAME, site.redo, (1 << 16, 1))
@@ -134,7 +134,7 @@ def test_refusals(sites):
     refused(Status.IN_FORCE, site.redo, (0, 1))
     site.undo((0, 1))
     refused(Status.NOT_IN_FORCE, site.undo, (0, 1))
-    for number in (64, 1 << 16, 1 << 32, -1):
+    for number in (1024, 1 << 16, 1 << 32, -1):
         refused(Status.SITE_OUT, Site, number)
         refused(Status.SITE_OUT, Site.load, number, b"COTLOG1\n")
     for index in (4, -1, 1 << 32):
@@ -185,7 +185,7 @@ def test_save_and_load(sites, tmp_path):
     ann = sites[0]
     ann.insert(0, "tea")
     log = ann.save()
-    assert log == b"COTLOG1\n" + b"".join(ann.frames())
+    assert log == b"COTLOG2\n" + b"".join(ann.frames())
     with Site.load(0, log) as same:
         assert same.number == 0 and list(same.history) == list(ann.history)
         assert list(same.insert(3, "!")) == list(ann.insert(3, "!"))
@@ -193,7 +193,7 @@ def test_save_and_load(sites, tmp_path):
     assert [it.name for it in tmp_path.iterdir()] == ["ann.log"]
     with Site.load_from(0, tmp_path / "ann.log") as same:
         assert same.text == "tea!"
-    assert Site.load(5, bytearray(b"COTLOG1\n")).text == ""
+    assert Site.load(5, bytearray(b"COTLOG1\n")).text == Site.load(5, bytearray(b"COTLOG2\n")).text == ""
 
 
 def test_logs_that_are_not_taken():
@@ -202,14 +202,14 @@ def test_logs_that_are_not_taken():
             Site.load(0, data)
         return raised.value
 
-    head = b"COTLOG1\n"
-    assert why(b"COTLOG2\n").status is Status.NO_HEAD
+    head = b"COTLOG2\n"
+    assert why(b"COTLOG3\n").status is Status.NO_HEAD
     cut = why(head + FIRST[:-1])
     assert (cut.status, cut.offset) == (Status.CUT, 8)
     bad = why(head + FIRST + bytes([0, 0, 0, 4, 9, 9, 9, 9]))
-    assert (bad.status, bad.offset, bad.cause) == (Status.MALFORMED, 33, Cause.KIND)
+    assert (bad.status, bad.offset, bad.cause) == (Status.MALFORMED, 35, Cause.KIND)
     other = why(head + FIRST + insert_frame(0, 1, 0, "b", []))
-    assert (other.status, other.offset, other.became, other.name) == (Status.REFUSED, 29, Became.FORGED, Name(0, 1))
+    assert (other.status, other.offset, other.became, other.name) == (Status.REFUSED, 31, Became.FORGED, Name(0, 1))
     assert str(other) == "refused"
     refused(Status.TOO_LONG, Site.load, 0, bytes((1 << 26) + 1))
 
@@ -232,15 +232,16 @@ def test_messages_that_are_not_taken(sites):
     ann = sites[0]
     ann.insert(0, "a")
     for message, status, offset in [
-        (b"COTLOG1\n" + bytes(5), Status.NO_HEAD, 0),
-        (b"COTVEC1\n" + bytes(4), Status.CUT, 12),
-        (b"COTVEC1\n" + bytes(6), Status.EXTRA, 13),
+        (b"COTLOG2\n" + bytes(6), Status.NO_HEAD, 0),
+        (b"COTVEC1\n" + bytes(5), Status.NO_HEAD, 0),
+        (b"COTVEC2\n" + bytes(5), Status.CUT, 13),
+        (b"COTVEC2\n" + bytes(7), Status.EXTRA, 14),
     ]:
         with pytest.raises(NotTaken) as why:
             ann.answer(message)
         assert (why.value.status, why.value.offset) == (status, offset)
     with pytest.raises(NotTaken) as why:
-        ann.join(b"COTVEC1\n" + bytes(5))
+        ann.join(b"COTVEC2\n" + bytes(6))
     assert why.value.status is Status.CUT
     with pytest.raises(NotTaken) as why:
         ann.finish(insert_frame(0, 1, 0, "b", []) + bytes(4))

@@ -419,14 +419,14 @@ static void backwards(void) {
 
 /* Insert SITE.1 of a letter at a place, after 0.1 and the undo of it. */
 #define AFTER_UNDO(site, place, letter) \
-    0, 0, 0, 29, 1, site, 0, 0, 0, 1, 0, 0, 0, place, 0, 0, 0, letter, 1, 0, 0, 0, 0, 1, 0, 1, 0, 0, 0, 0, 1, 0, 1
+    0, 0, 0, 35, 1, 0, site, 0, 0, 0, 1, 0, 0, 0, place, 0, 0, 0, letter, 0, 1, 0, 0, 0, 0, 0, 1, 0, 1, 0, 0, 0, 0, 0, 1, 0, 1, 0, 1
 
 /* What waits for an undo is released by the user's own: one insert whose place isn't there, one that is good, and the insert after
  * that, whose place isn't there either. The log is loaded then. */
 static void freed_by_an_undo(void) {
     static const uint8_t far[] = {AFTER_UNDO(1, 9, 'f')}, good[] = {AFTER_UNDO(3, 1, 'g')};
-    static const uint8_t behind[] = {0, 0, 0, 34, 1, 4, 0, 0, 0, 1, 0, 0, 0, 9, 0, 0, 0, 'b', 2, 0, 0, 0, 0, 1, 3, 0, 0, 0, 1, 0, 1,
-        0, 0, 0, 0, 1, 0, 1};
+    static const uint8_t behind[] = {0, 0, 0, 41, 1, 0, 4, 0, 0, 0, 1, 0, 0, 0, 9, 0, 0, 0, 'b', 0, 2, 0, 0, 0, 0, 0, 1, 0, 3, 0, 0, 0, 1,
+        0, 1, 0, 0, 0, 0, 0, 1, 0, 1, 0, 1};
     cotpad_site first = COTPAD_SITE_EMPTY, second = COTPAD_SITE_EMPTY;
     cotpad_site *here = &first, *again_here = &second;
     DO(cotpad_open(here, 0));

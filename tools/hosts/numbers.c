@@ -1,4 +1,4 @@
-/* Numbers of sites above 63, up to the greatest of the type: each is refused, and none is cut to a smaller one. It is C99, C11 and
+/* Numbers of sites above 1,023, up to the greatest of the type: each is refused, and none is cut to a smaller one. It is C99, C11 and
  * C++11, so that the header is compiled in each; from C11 and C++11 on the header asserts how its structs are laid out. */
 #include "cotpad.h"
 #include <stdio.h>
@@ -29,15 +29,15 @@ static void refused(cotpad_site *site, uint32_t number) {
 }
 
 int main(void) {
-    static const uint32_t out[] = {64, 255, 256, 65535, 65536, 65536 + 63, 16777216, 2147483648u, 4294967295u - 65535, 4294967295u};
+    static const uint32_t out[] = {1024, 65535, 65536, 65536 + 63, 16777216, 2147483648u, 4294967295u - 65535, 4294967295u};
     static cotpad_verdict why;
     cotpad_site site = COTPAD_SITE_EMPTY, last = COTPAD_SITE_EMPTY;
     if (cotpad_version() != COTPAD_VERSION) return 2;
     must("open", 0, cotpad_open(&site, 0), COTPAD_OK);
     must("insert", 0, cotpad_insert(&site, 0, 'a'), COTPAD_OK);
     for (size_t i = 0; i < sizeof out / sizeof *out; i++) refused(&site, out[i]);
-    must("undo", 63, cotpad_undo(&site, 63, 1), COTPAD_UNKNOWN);
-    must("load", 63, cotpad_load(&last, 63, log_of_nothing, sizeof log_of_nothing, &why), COTPAD_OK);
+    must("undo", 1023, cotpad_undo(&site, 1023, 1), COTPAD_UNKNOWN);
+    must("load", 1023, cotpad_load(&last, 1023, log_of_nothing, sizeof log_of_nothing, &why), COTPAD_OK);
     if (failed) return 1;
     cotpad_close(&last);
     cotpad_close(&site);

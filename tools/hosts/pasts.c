@@ -42,7 +42,7 @@ static void before(cotpad_site *site, uint32_t index, cotpad_status status, cons
 }
 
 static void send(cotpad_site *from, uint32_t index, cotpad_site *to) {
-    static uint8_t frame[COTPAD_LONGEST_FRAME];
+    static uint8_t frame[COTPAD_FRAME_MAX];
     size_t count = 0;
     cotpad_verdict verdict = {0};
     is(cotpad_frame(from, index, frame, sizeof frame, &count), COTPAD_OK, "frame");
@@ -102,10 +102,10 @@ static void refusals(cotpad_site *site) {
 }
 
 static void no_sets(cotpad_site *site) {
-    static const cotpad_count counts[][2] = {{{1, 1}, {0, 1}}, {{0, 1}, {0, 2}}, {{0, 0}, {1, 1}}, {{0, 1}, {64, 1}},
+    static const cotpad_count counts[][2] = {{{1, 1}, {0, 1}}, {{0, 1}, {0, 2}}, {{0, 0}, {1, 1}}, {{0, 1}, {1024, 1}},
         {{0, 1000001}, {1, 1}}, {{65536, 1}, {65537, 1}}, {{4294967295u, 1}, {0, 1}}, {{0, 1}, {4294967295u, 4294967295u}}};
     static const cotpad_member names[][2] = {{{0, 2, 1}, {0, 1, 1}}, {{0, 2, 1}, {0, 2, 1}}, {{1, 1, 1}, {0, 2, 1}}, {{0, 0, 1}, {0, 1, 1}},
-        {{0, 1, 0}, {0, 2, 1}}, {{0, 1, 1}, {0, 2, 65536}}, {{0, 1, 1}, {64, 1, 1}}, {{0, 1, 1}, {0, 1000001, 1}},
+        {{0, 1, 0}, {0, 2, 1}}, {{0, 1, 1}, {0, 2, 65536}}, {{0, 1, 1}, {1024, 1, 1}}, {{0, 1, 1}, {0, 1000001, 1}},
         {{65536, 1, 1}, {65536, 2, 1}}};
     static const cotpad_count two[] = {{0, 2}};
     for (size_t i = 0; i < LENGTH(counts); i++) at(site, counts[i], 2, names[0], 0, COTPAD_NO_SET, NULL, untold, "counts of no set");

@@ -6,7 +6,7 @@
 #include <stdlib.h>
 #include <string.h>
 
-enum { LONGEST = 116051, LETTERS = 256, LIMIT = 67108864 };
+enum { LONGEST = 171029, LETTERS = 256, LIMIT = 67108864 };
 
 static void stop(const char *what, uint32_t is, uint32_t wanted) {
     printf("%s: %u, and not %u\n", what, is, wanted);
@@ -28,7 +28,7 @@ static void put(frame *f, size_t size, uint32_t number) {
 }
 
 static void put_name(frame *f, uint32_t site, uint32_t number) {
-    put(f, 1, site), put(f, 4, number);
+    put(f, 2, site), put(f, 4, number);
 }
 
 static void end(frame *f) {
@@ -55,10 +55,10 @@ static frame *run(frame *f, uint32_t site, uint32_t number, uint32_t place, uint
 
 /* The context that has the first `count` inserts and deletes of one site, and an undone or redone 0.1, unless `generation` is 0. */
 static const frame *after(frame *f, uint32_t site, uint32_t count, uint32_t generation) {
-    put(f, 1, count > 0);
+    put(f, 2, count > 0);
     if (count > 0) put_name(f, site, count);
     put(f, 2, generation > 0);
-    if (generation > 0) put_name(f, 0, 1), put(f, 2, generation);
+    if (generation > 0) put_name(f, 0, 1), put(f, 2, 1), put(f, 2, generation);
     end(f);
     return f;
 }
@@ -201,28 +201,28 @@ static void a_text_frees_between_its_pieces(cotpad_site *site) {
 }
 
 /* A frame as long as can be: an insert 1.N of 256 characters that waits for 0.1, with a context of all sites and of 16,384 undone
- * names. */
+ * names, of which none goes on with the one before. */
 static const frame *longest(uint32_t number) {
     run(&one, 1, number, 0, 'x', LETTERS);
-    put(&one, 1, 64);
-    for (uint32_t site = 0; site < 64; site++) put_name(&one, site, site == 0 ? 16384 : site == 1 ? number - 1 : 1);
+    put(&one, 2, 1024);
+    for (uint32_t site = 0; site < 1024; site++) put_name(&one, site, site == 0 ? 32768 : site == 1 ? number - 1 : 1);
     put(&one, 2, 16384);
-    for (uint32_t undone = 1; undone <= 16384; undone++) put_name(&one, 0, undone), put(&one, 2, 1);
+    for (uint32_t undone = 1; undone <= 16384; undone++) put_name(&one, 0, 2 * undone), put(&one, 2, 1), put(&one, 2, 1);
     end(&one);
     is((uint32_t)one.count, LONGEST, "the longest frame");
     return &one;
 }
 
-/* 578 of them and the head are 67,077,486 bytes, which can be loaded, and 579 are too many. */
+/* 392 of them and the head are 67,043,376 bytes, which can be loaded, and 393 are too many. */
 static void a_log_that_is_too_long_is_not_saved(cotpad_site *site) {
     static uint8_t log[LIMIT];
     size_t count = 0;
     cotpad_verdict why = {0};
     is(cotpad_open(site, 2), COTPAD_OK, "open");
-    for (uint32_t number = 2; number < 2 + 578; number++) is(receive(site, longest(number)), COTPAD_VERDICT_WAITS, "a long frame");
+    for (uint32_t number = 2; number < 2 + 392; number++) is(receive(site, longest(number)), COTPAD_VERDICT_WAITS, "a long frame");
     is(cotpad_save(site, log, sizeof log, &count), COTPAD_OK, "save of a long log");
-    is((uint32_t)count, 67077486, "the bytes of a long log");
-    is(receive(site, longest(2 + 578)), COTPAD_VERDICT_WAITS, "the frame that is too many");
+    is((uint32_t)count, 67043376, "the bytes of a long log");
+    is(receive(site, longest(2 + 392)), COTPAD_VERDICT_WAITS, "the frame that is too many");
     size_t needed = 7;
     uint8_t untouched = log[0];
     log[0] = 0;
@@ -232,7 +232,7 @@ static void a_log_that_is_too_long_is_not_saved(cotpad_site *site) {
     log[0] = untouched;
     cotpad_close(site);
     is(cotpad_load(site, 2, log, count, &why), COTPAD_OK, "load of a long log");
-    is(cotpad_waiting(site), 578, "what waits in a long log");
+    is(cotpad_waiting(site), 392, "what waits in a long log");
     cotpad_close(site);
 }
 

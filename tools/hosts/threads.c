@@ -7,7 +7,7 @@
 #include <stdlib.h>
 #include <string.h>
 
-enum { EDITS = 400, LONGEST = 116051, TEXT = 4 * EDITS + 1 };
+enum { EDITS = 400, LONGEST = 171029, TEXT = 4 * EDITS + 1 };
 
 typedef struct message {
     struct message *next;

@@ -2,9 +2,9 @@
 use Rattle.std.specs.Prelude.{◌≡◌, ◌+◌}
 use Rattle.op_name.specs.declared.member.TheConstants.{GENERATIONS}
 use Rattle.op_name.specs.declared.name.TheConstants.{SITES, NUMBERS}
-use Rattle.context_diff.specs.declared.letters.TheConstants.{LETTERS}
+use Rattle.op_name.specs.declared.limits.TheConstants.{LETTERS}
 use Rattle.context_diff.specs.declared.op.TheConstants.{UNDO_ENTRIES}
-use Rattle.wire_codec.specs.declared.rules.TheConstants.{LONGEST_BODY}
+use Rattle.wire_codec.specs.declared.rules.TheConstants.{LONGEST_BODY_TWO}
 use Rattle.session_log.specs.declared.reading.TheConstants.{MAX_LOG}
 use Rattle.peer_exchange.specs.declared.messages.TheConstants.{MAX_MESSAGE}
 use Rattle.cotpad_c.specs.declared.exports.TheConstants.{VERSION}
@@ -60,18 +60,18 @@ pub record AreVerdictKinds : Type 0 where
 -- names a context tells undos; the most characters of an insert; and the most bytes of a log, of a message and of a frame, which is a
 -- length of four bytes and a body
 pub record AreLimits : Type 0 where
-  pub sites : SITES ≡ 64
+  pub sites : SITES ≡ 1024
   pub numbers : NUMBERS ≡ 1000000
   pub generations : GENERATIONS ≡ 65535
   pub undone : UNDO_ENTRIES ≡ 16384
   pub letters : LETTERS ≡ 256
   pub log : MAX_LOG ≡ 67108864
   pub message : MAX_MESSAGE ≡ 67108864
-  pub frame : 4 + LONGEST_BODY ≡ 116051
+  pub frame : 4 + LONGEST_BODY_TWO ≡ 171029
 
 -- all of them, in this version
 pub record AreTheNumbers : Type 0 where
-  pub version : VERSION ≡ 2
+  pub version : VERSION ≡ 3
   pub statuses : AreStatuses
   pub operations : AreOperationKinds
   pub verdicts : AreVerdictKinds

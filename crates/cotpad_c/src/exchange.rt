@@ -1,6 +1,7 @@
 //! The three messages of an exchange.
 
 ghost use Rattle.std.specs.Prelude.{◌≡◌, ◌≢◌, ◌⊎◌, ◌<◌, ◌≤◌, [], ℕ, length};
+ghost use Rattle.wire_codec.specs.declared.version.Version.TheVariants.{Two};
 ghost use Rattle.wire_codec.specs.Answers.{HasFrame};
 ghost use Rattle.cot_site.specs.Sites.{state_of};
 ghost use Rattle.cot_site.specs.Releases.{IsLater};
@@ -117,7 +118,7 @@ pub(crate) fn finish(
         × (why.new ≡ why.old) }
     ensures refused { length third.now ≤ MAX_MESSAGE → result ≢ OK
         → IsRefused (IsUnfinished (state_of hosted.old.site) third.now (state_of hosted.new.site)) result why.old why.new }
-    ensures needed { result ≡ NO_MEMORY → HasFrame third.now }
+    ensures needed { result ≡ NO_MEMORY → HasFrame Two third.now }
     ensures later { IsLater (state_of hosted.old.site) (state_of hosted.new.site) }
     ensures quiet { hosted.new.released ≡ [] }
 {
@@ -134,7 +135,7 @@ fn finish_at(alloc: Global, site: &mut Site, third: &[u8], why: &mut CotpadVerdi
     ensures finished { result ≡ OK → ((count : ℕ) × IsFinished (state_of site.old) third.now (state_of site.new) count)
         × (why.new ≡ why.old) }
     ensures refused { result ≢ OK → IsRefused (IsUnfinished (state_of site.old) third.now (state_of site.new)) result why.old why.new }
-    ensures needed { result ≡ NO_MEMORY → HasFrame third.now }
+    ensures needed { result ≡ NO_MEMORY → HasFrame Two third.now }
     ensures later { IsLater (state_of site.old) (state_of site.new) }
 {
     match peer_exchange::finish(alloc, site, third) {

@@ -10,6 +10,7 @@ ghost use Rattle.context_diff.specs.Operations.{OpData};
 ghost use Rattle.context_diff.specs.Replays.{Cell, shown, text_of};
 ghost use Rattle.site_answers.specs.declared.release.Release.{Release};
 ghost use Rattle.site_answers.specs.declared.verdict.Verdict.TheVariants.{Integrated};
+ghost use Rattle.wire_codec.specs.declared.version.Version.TheVariants.{Two};
 ghost use Rattle.wire_codec.specs.Answers.{HasFrame};
 ghost use Rattle.wire_codec.specs.Spelling.{frame};
 ghost use Rattle.wire_codec.specs.Judging.{judge};
@@ -52,7 +53,7 @@ use std::alloc::Global;
 use std::mem::replace;
 
 /// The version of these calls, of their structs and of their numbers.
-pub const VERSION: u32 = 2;
+pub const VERSION: u32 = 3;
 
 /// Tells the version.
 #[unsafe(no_mangle)]
@@ -312,7 +313,7 @@ pub extern "C" fn cotpad_frame(
 ) -> u32
     requires { IsSome site.old.site }
     ensures wrote { (o : OpData) → slice_get (held_site site.old.site).history index ≡ Some o
-        → (result ≡ NO_MEMORY) ⊎ Wrote result (frame o) out.old out.new needed.new }
+        → (result ≡ NO_MEMORY) ⊎ Wrote result (frame Two o) out.old out.new needed.new }
     ensures none { slice_get (held_site site.old.site).history index ≡ None
         → (result ≡ NONE) × (out.new ≡ out.old) × (needed.new ≡ needed.old) }
     ensures err { result ≡ NO_MEMORY → (out.new ≡ out.old) × (needed.new ≡ needed.old) }
@@ -332,10 +333,10 @@ pub extern "C" fn cotpad_receive(
     requires { IsSome site.old.site }
     ensures live { IsSome site.new.site }
     ensures status { (result ≡ OK) ⊎ (result ≡ UNSETTLED) ⊎ (result ≡ NO_MEMORY) }
-    ensures verdict { result ≢ NO_MEMORY → verdict.new ≡ answered (held_state site.old.site) (judge bytes.now) }
-    ensures done { result ≡ OK → held_reached site.new.site ≡ received (held_state site.old.site) (judge bytes.now) }
-    ensures unsettled { result ≡ UNSETTLED → IsHalfReceived (held_state site.old.site) (judge bytes.now) (held_reached site.new.site) }
-    ensures needed { result ≡ NO_MEMORY → HasFrame bytes.now }
+    ensures verdict { result ≢ NO_MEMORY → verdict.new ≡ answered (held_state site.old.site) (judge Two bytes.now) }
+    ensures done { result ≡ OK → held_reached site.new.site ≡ received (held_state site.old.site) (judge Two bytes.now) }
+    ensures unsettled { result ≡ UNSETTLED → IsHalfReceived (held_state site.old.site) (judge Two bytes.now) (held_reached site.new.site) }
+    ensures needed { result ≡ NO_MEMORY → HasFrame Two bytes.now }
     ensures err { result ≡ NO_MEMORY → (held_reached site.new.site ≡ from (held_state site.old.site)) × (verdict.new ≡ verdict.old) }
 {
     receiving::receive(alloc, site.inner(), bytes, verdict)
@@ -562,7 +563,7 @@ pub extern "C" fn cotpad_exchange_finish(
         × (why.new ≡ why.old) }
     ensures refused { length third.now ≤ MAX_MESSAGE → result ≢ OK
         → IsRefused (IsUnfinished (held_state site.old.site) third.now (held_state site.new.site)) result why.old why.new }
-    ensures needed { result ≡ NO_MEMORY → HasFrame third.now }
+    ensures needed { result ≡ NO_MEMORY → HasFrame Two third.now }
     ensures later { IsLater (held_state site.old.site) (held_state site.new.site) }
     ensures quiet { held_releases site.new.site ≡ [] }
 {

@@ -6,6 +6,7 @@ ghost use Rattle.context_diff.specs.Operations.{OpData};
 ghost use Rattle.context_diff.specs.Ops.{data_of};
 ghost use Rattle.context_diff.specs.Replays.{Cell, shown, text_of};
 ghost use Rattle.ttf_form.specs.Cells.{cell_key};
+ghost use Rattle.wire_codec.specs.declared.version.Version.TheVariants.{Two};
 ghost use Rattle.wire_codec.specs.Spelling.{frame};
 ghost use Rattle.cot_site.specs.Sites.{state_of};
 ghost use Rattle.cot_site.specs.States.{IsSettled};
@@ -26,7 +27,7 @@ use session_log::{MAX_LOG, round_trip, write_log};
 use std::alloc::Global;
 use tombstone_text::{CellId, Cells};
 use visible_view::cell_of_visible;
-use wire_codec::encode;
+use wire_codec::encode2;
 
 /// Copies the bytes, if there is room for all, and answers their number.
 pub(crate) fn hand_out(bytes: &[u8], out: &mut [u8], needed: &mut usize) -> u32
@@ -119,7 +120,7 @@ pub(crate) fn frame_at(
     needed: &mut usize,
 ) -> u32
     ensures wrote { (o : OpData) → slice_get site.now.history index ≡ Some o
-        → (result ≡ NO_MEMORY) ⊎ Wrote result (frame o) out.old out.new needed.new }
+        → (result ≡ NO_MEMORY) ⊎ Wrote result (frame Two o) out.old out.new needed.new }
     ensures none { slice_get site.now.history index ≡ None → (result ≡ NONE) × (out.new ≡ out.old) × (needed.new ≡ needed.old) }
     ensures err { result ≡ NO_MEMORY → (out.new ≡ out.old) × (needed.new ≡ needed.old) }
 {
@@ -128,7 +129,7 @@ pub(crate) fn frame_at(
         return NONE;
     };
     let mut bytes = Vec::new(alloc);
-    match encode(op, &mut bytes) {
+    match encode2(op, &mut bytes) {
         Ok(()) => hand_out(bytes.as_slice(), out, needed),
         Err(_) => NO_MEMORY,
     }

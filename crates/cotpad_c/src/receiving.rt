@@ -5,6 +5,7 @@ ghost use Rattle.context_diff.specs.Operations.{IsWellFormed};
 ghost use Rattle.context_diff.specs.Ops.{data_of};
 ghost use Rattle.site_answers.specs.declared.release.Release.{Release};
 ghost use Rattle.site_answers.specs.declared.verdict.Verdict.TheVariants.{Integrated};
+ghost use Rattle.wire_codec.specs.declared.version.Version.TheVariants.{Two};
 ghost use Rattle.wire_codec.specs.Answers.{HasFrame};
 ghost use Rattle.wire_codec.specs.Judging.{judge};
 ghost use Rattle.cot_site.specs.Sites.{state_of};
@@ -24,7 +25,7 @@ use crate::verdict::{CotpadVerdict, incomplete, malformed, of_member, told};
 use context_diff::Op;
 use participant::Untaken;
 use std::alloc::Global;
-use wire_codec::{Decoded, decode};
+use wire_codec::{Decoded, decode2};
 
 /// Delivers the operation of the frame that the bytes begin with, tells its verdict, and releases.
 pub(crate) fn receive(
@@ -34,14 +35,14 @@ pub(crate) fn receive(
     verdict: &mut CotpadVerdict,
 ) -> u32
     ensures status { (result ≡ OK) ⊎ (result ≡ UNSETTLED) ⊎ (result ≡ NO_MEMORY) }
-    ensures verdict { result ≢ NO_MEMORY → verdict.new ≡ answered (state_of hosted.old.site) (judge bytes.now) }
-    ensures done { result ≡ OK → reached hosted.new ≡ received (state_of hosted.old.site) (judge bytes.now) }
-    ensures unsettled { result ≡ UNSETTLED → IsHalfReceived (state_of hosted.old.site) (judge bytes.now) (reached hosted.new) }
-    ensures needed { result ≡ NO_MEMORY → HasFrame bytes.now }
+    ensures verdict { result ≢ NO_MEMORY → verdict.new ≡ answered (state_of hosted.old.site) (judge Two bytes.now) }
+    ensures done { result ≡ OK → reached hosted.new ≡ received (state_of hosted.old.site) (judge Two bytes.now) }
+    ensures unsettled { result ≡ UNSETTLED → IsHalfReceived (state_of hosted.old.site) (judge Two bytes.now) (reached hosted.new) }
+    ensures needed { result ≡ NO_MEMORY → HasFrame Two bytes.now }
     ensures err { result ≡ NO_MEMORY → (reached hosted.new ≡ from (state_of hosted.old.site)) × (verdict.new ≡ verdict.old) }
 {
     hosted.forget();
-    match decode(alloc, bytes) {
+    match decode2(alloc, bytes) {
         Ok(Decoded::Got { op, used }) => {
             let mut op = op;
             deliver(hosted, &mut op, used, verdict)

@@ -1,7 +1,7 @@
 //! Characters in UTF-8, put into a buffer of the host's: that takes no memory.
 
 ghost use Rattle.std.specs.Prelude.{◌≡◌, ◌≤◌, ◌+◌, ◌++◌, drop, encode_utf8_all, length, take};
-ghost use Rattle.context_diff.specs.declared.letters.TheConstants.{LETTERS};
+ghost use Rattle.op_name.specs.declared.limits.TheConstants.{LETTERS};
 ghost use Rattle.cotpad_c.specs.Statuses.{Wrote};
 
 use crate::status::{OK, TOO_SHORT};

@@ -1,4 +1,4 @@
-//! What hosts are answered. The frames are the examples of the format, written by hand.
+//! What hosts are answered. The frames are examples of version 2 of the format, written by hand.
 
 ghost use Rattle.std.specs.Prelude.{IfOk, IsSome};
 
@@ -12,12 +12,12 @@ use std::test::Fail;
 
 /// Insert 0.1 at place 0 of `a`, with an empty context.
 const FIRST: &[u8] = &[
-    0, 0, 0, 17, 1, 0, 0, 0, 0, 1, 0, 0, 0, 0, 0, 0, 0, 97, 0, 0, 0,
+    0, 0, 0, 19, 1, 0, 0, 0, 0, 0, 1, 0, 0, 0, 0, 0, 0, 0, 97, 0, 0, 0, 0,
 ];
 
 /// Insert 0.2 at place 1 of `b`, after 0.1.
 const SECOND: &[u8] = &[
-    0, 0, 0, 22, 1, 0, 0, 0, 0, 2, 0, 0, 0, 1, 0, 0, 0, 98, 1, 0, 0, 0, 0, 1, 0, 0,
+    0, 0, 0, 25, 1, 0, 0, 0, 0, 0, 2, 0, 0, 0, 1, 0, 0, 0, 98, 0, 1, 0, 0, 0, 0, 0, 1, 0, 0,
 ];
 
 #[test]
@@ -33,9 +33,9 @@ fn structs_are_as_long_as_the_header_says(rt: HostRuntime) {
 fn a_handle_is_opened_and_closed(rt: HostRuntime) {
     let alloc = rt.alloc();
     let mut site = CotpadSite::empty(alloc);
-    assert_eq!(rt; exports::cotpad_version(), 2);
+    assert_eq!(rt; exports::cotpad_version(), 3);
     assert_eq!(rt;
-        exports::cotpad_open(alloc, &mut site, 64),
+        exports::cotpad_open(alloc, &mut site, 1_024),
         status::SITE_OUT
     );
     assert_eq!(rt;
@@ -146,7 +146,7 @@ fn what_a_delivery_frees_is_told(rt: HostRuntime) -> Result<(), Fail> {
 
 /// Insert 0.1 of `ab` at place 0, with an empty context.
 const BOTH: &[u8] = &[
-    0, 0, 0, 23, 4, 0, 0, 0, 0, 1, 0, 0, 0, 0, 0, 2, 0, 0, 0, 97, 0, 0, 0, 98, 0, 0, 0,
+    0, 0, 0, 25, 4, 0, 0, 0, 0, 0, 1, 0, 0, 0, 0, 0, 2, 0, 0, 0, 97, 0, 0, 0, 98, 0, 0, 0, 0,
 ];
 
 #[test]
@@ -161,7 +161,7 @@ fn an_insert_of_two_characters_is_told(rt: HostRuntime) -> Result<(), Fail> {
         status::OK
     );
     assert_eq!(rt; verdict.kind, kinds::INTEGRATED);
-    assert_eq!(rt; verdict.used, 27);
+    assert_eq!(rt; verdict.used, 29);
     assert_eq!(rt; verdict.operation.kind, kinds::INSERT);
     assert_eq!(rt; verdict.operation.scalar, 97);
     assert_eq!(rt; verdict.operation.characters, 2);
@@ -180,8 +180,8 @@ fn an_insert_of_two_characters_is_told(rt: HostRuntime) -> Result<(), Fail> {
 
 /// Insert 1.1 of `x` at place 9, after 0.1 and the undo of it: there is one cell.
 const FAR: &[u8] = &[
-    0, 0, 0, 29, 1, 1, 0, 0, 0, 1, 0, 0, 0, 9, 0, 0, 0, 120, 1, 0, 0, 0, 0, 1, 0, 1, 0, 0, 0, 0, 1,
-    0, 1,
+    0, 0, 0, 35, 1, 0, 1, 0, 0, 0, 1, 0, 0, 0, 9, 0, 0, 0, 120, 0, 1, 0, 0, 0, 0, 0, 1, 0, 1, 0, 0,
+    0, 0, 0, 1, 0, 1, 0, 1,
 ];
 
 #[test]
@@ -219,13 +219,13 @@ fn bytes_are_handed_out_where_there_is_room(rt: HostRuntime) -> Result<(), Fail>
     let alloc = rt.alloc();
     let mut site = opened(alloc)?;
     let mut needed = 0;
-    let mut room = [0u8; 21];
+    let mut room = [0u8; 23];
     assert_eq!(rt; exports::cotpad_insert(&mut site, 0, 97), status::OK);
     assert_eq!(rt;
         exports::cotpad_frame(alloc, &mut site, 0, &mut room, &mut needed),
         status::OK
     );
-    assert_eq!(rt; needed, 21);
+    assert_eq!(rt; needed, 23);
     assert_eq!(rt;
         exports::cotpad_frame(alloc, &mut site, 1, &mut room, &mut needed),
         status::NONE
@@ -398,7 +398,10 @@ fn a_text_of_the_past_is_handed_out(rt: HostRuntime) -> Result<(), Fail> {
     assert_eq!(rt; why.site, 5);
     assert_eq!(rt; why.number, 1);
     assert_eq!(rt; why.generation, 0);
-    let out_of_range = [CotpadCount { site: 64, count: 1 }];
+    let out_of_range = [CotpadCount {
+        site: 1_024,
+        count: 1,
+    }];
     let answer = exports::cotpad_text_at(
         alloc,
         &mut site,
@@ -419,14 +422,14 @@ fn a_log_is_saved_and_loaded(rt: HostRuntime) -> Result<(), Fail> {
     let alloc = rt.alloc();
     let mut needed = 0;
     let mut why = incomplete(0);
-    let mut log = [0u8; 29];
+    let mut log = [0u8; 31];
     let mut site = opened(alloc)?;
     assert_eq!(rt; exports::cotpad_insert(&mut site, 0, 97), status::OK);
     assert_eq!(rt;
         exports::cotpad_save(alloc, &mut site, &mut log, &mut needed),
         status::OK
     );
-    assert_eq!(rt; needed, 29);
+    assert_eq!(rt; needed, 31);
     exports::cotpad_close(alloc, &mut site);
     let answer = exports::cotpad_load(alloc, &mut site, 3, &log, &mut why);
     if answer == status::OK {
@@ -443,7 +446,7 @@ fn a_log_that_is_cut_is_refused(rt: HostRuntime) {
     let alloc = rt.alloc();
     let mut why = incomplete(0);
     let mut site = CotpadSite::empty(alloc);
-    let answer = exports::cotpad_load(alloc, &mut site, 3, b"COTLOG1\n\0\0", &mut why);
+    let answer = exports::cotpad_load(alloc, &mut site, 3, b"COTLOG2\n\0\0", &mut why);
     if answer == status::OK {
         exports::cotpad_close(alloc, &mut site);
     }
@@ -457,9 +460,9 @@ fn an_exchange_sends_what_is_lacked(rt: HostRuntime) {
     let alloc = rt.alloc();
     let mut needed = 0;
     let mut why = incomplete(0);
-    let mut first = [0u8; 18];
-    let mut second = [0u8; 17];
-    let mut third = [0u8; 25];
+    let mut first = [0u8; 20];
+    let mut second = [0u8; 18];
+    let mut third = [0u8; 27];
     let mut joiner = CotpadSite::empty(alloc);
     let mut server = CotpadSite::empty(alloc);
     assert_eq!(rt; exports::cotpad_open(alloc, &mut joiner, 5), status::OK);

@@ -7,8 +7,8 @@ from collections.abc import Callable
 from pathlib import Path
 from typing import Any
 
-VERSION = 2
-FILE = "libcotpad.so.2"
+VERSION = 3
+FILE = "libcotpad.so.3"
 
 u32, size = ctypes.c_uint32, ctypes.c_size_t
 byte = ctypes.c_uint8

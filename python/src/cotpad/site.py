@@ -18,7 +18,7 @@ from .values import Became, Character, Delivered, Edit, Kind, Member, Name, Oper
 # A buffer for answers is kept up to this size.
 KEPT = 1 << 20
 # Where the frame of an insert of several characters has them, each by four bytes.
-TEXT = 16
+TEXT = 17
 
 
 # Delivers the frame that bytes have at an offset: the verdict, and what became of the operation and of those it released.
@@ -129,7 +129,7 @@ class Incoming:
 class Site:
     """One person's copy of a group text. It is closed by `close`, or by leaving its `with`, and used on the thread that made it.
 
-    Its number, 0 to 63, belongs to this copy alone, for ever: two copies that edit under one number give one name twice. That happens
+    Its number, 0 to 1,023, belongs to this copy alone, for ever: two copies that edit under one number give one name twice. That happens
     as well where a host sends a frame, stops before it has saved, and goes on from what it saved before. `Document` is a site that
     saves first; a host that uses `Site` itself has to see to that."""
 

@@ -10,7 +10,7 @@ from .site import Site
 from .values import Delivered, Edit, Kind, Name, Operation
 
 # Where a frame has the place of an insert or a delete.
-PLACE = slice(10, 14)
+PLACE = slice(11, 15)
 # A text of more characters is cut into pieces of so many.
 PIECE = 256
 
