@@ -6,7 +6,7 @@ use crate::long::{
     hide_each, next_insert, put, put_and_hide, put_at_each, put_runs, undo,
 };
 use crate::words::Words;
-use op_name::Memory;
+use op_name::{LETTERS, Memory};
 use std::alloc::Global;
 use tombstone_text::{Cell, CellId, Cells};
 use ttf_form::Form;
@@ -111,7 +111,7 @@ fn mixed(words: &mut Words<'_>, text: &mut Text) -> Result<bool, Memory> {
 // `runs SPOT COUNT MOST`: so many inserts of up to so many letters at a spot; some cells are hidden, and some inserts undone.
 fn runs(alloc: Global, words: &mut Words<'_>, text: &mut Text) -> Result<bool, Memory> {
     match (spot_of(words.word()), words.number(), words.number()) {
-        (Some(spot), Some(count), Some(most)) if 1 <= most && most <= 256 => {
+        (Some(spot), Some(count), Some(most)) if 1 <= most && most <= u32::from(LETTERS) => {
             put_runs(alloc, text, spot, count, most)
         }
         _ => Ok(false),

@@ -85,7 +85,7 @@ fn over_insert(form: &Form, other: &Form) -> Option<Form> {
             added,
         ))),
         (Form::Cover(cover), Form::Ins(added)) if cover.place < MOST => Some(Form::Cover(
-            cover.over_ins_at(added.place, added.extent()),
+            cover.over_ins_at(added.place, added.len),
         )),
         _ => None,
     }

@@ -5,7 +5,7 @@ ghost use Rattle.op_name.specs.Members.{IsMember};
 
 use context_diff::{Letters, LettersBad};
 use context_vector::Vector;
-use op_name::{Member, Memory, Name};
+use op_name::{LETTERS, Member, Memory, Name};
 use std::alloc::Global;
 use ttf_form::{Cover, Form, Ins, Mark};
 
@@ -87,9 +87,9 @@ fn character_of(word: &str) -> Option<char> {
     }
 }
 
-/// The insert of so many cells, of the name's site; None where there are none, or more than 256.
+/// The insert of so many cells, of the name's site; None where there are none, or more than `LETTERS`.
 pub(crate) fn ins_of(place: u32, len: u16, name: Name) -> Option<Ins> {
-    if len < 1 || 256 < len {
+    if len < 1 || LETTERS < len {
         return None;
     }
     let site = name.site;
@@ -164,7 +164,7 @@ impl<'a> Words<'a> {
         Ok(text)
     }
 
-    /// The text of an insert, of 1 to 256 characters.
+    /// The text of an insert, of 1 to `LETTERS` characters.
     pub(crate) fn letters(&mut self, alloc: Global) -> Result<Option<Letters>, Memory> {
         let text = self.text(alloc)?;
         match Letters::new(alloc, &text) {

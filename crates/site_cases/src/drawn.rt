@@ -106,7 +106,7 @@ fn new_sites(alloc: Global, count: u16) -> Result<Vec<Site>, Fail>
 
 /// Sites write and read in turn.
 fn talk(numbers: &mut Numbers, sites: &mut Vec<Site>, messages: &mut Vec<Op>) -> Result<(), Fail> {
-    let count = sites.len().clamp(1, 64) as u32;
+    let count = sites.len().clamp(1, SITES as usize) as u32;
     for _ in 0..32 {
         let place = numbers.below(count) as usize;
         if let Some(site) = sites.get_mut(place) {

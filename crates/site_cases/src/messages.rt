@@ -7,26 +7,35 @@ use std::alloc::Global;
 use wire_codec::Cause;
 
 /// The head, the state 0:1, the frame of insert 0.1 of `a`, and the end mark.
-const SECOND: &[u8] = b"COTVEC1\n\x01\x00\x00\x00\x00\x01\x00\x00\x00\x00\
-    \x00\x00\x00\x11\x01\x00\x00\x00\x00\x01\x00\x00\x00\x00\x00\x00\x00\x61\x00\x00\x00\
+const SECOND: &[u8] = b"COTVEC2\n\x00\x01\x00\x00\x00\x00\x00\x01\x00\x00\x00\x00\
+    \x00\x00\x00\x13\x01\x00\x00\x00\x00\x00\x01\x00\x00\x00\x00\x00\x00\x00\x61\x00\x00\x00\x00\
     \x00\x00\x00\x00";
 
 /// The same without its end mark.
-const CUT: &[u8] = b"COTVEC1\n\x01\x00\x00\x00\x00\x01\x00\x00\x00\x00\
-    \x00\x00\x00\x11\x01\x00\x00\x00\x00\x01\x00\x00\x00\x00\x00\x00\x00\x61\x00\x00\x00";
+const CUT: &[u8] = b"COTVEC2\n\x00\x01\x00\x00\x00\x00\x00\x01\x00\x00\x00\x00\
+    \x00\x00\x00\x13\x01\x00\x00\x00\x00\x00\x01\x00\x00\x00\x00\x00\x00\x00\x61\x00\x00\x00\x00";
 
-const MEASURED: [(&str, Which, &[u8], Measure); 12] = [
+const MEASURED: [(&str, Which, &[u8], Measure); 16] = [
     ("nothing", Which::First, b"", Measure::More { at_least: 8 }),
     (
         "a head",
         Which::First,
-        b"COTVEC1\n",
-        Measure::More { at_least: 9 },
+        b"COTVEC2\n",
+        Measure::More { at_least: 10 },
     ),
     (
-        "another head",
+        "the head of version 1, at the server",
+        Which::First,
+        b"COTVEC1\n",
+        Measure::Bad {
+            offset: 0,
+            cause: PeerCause::Head,
+        },
+    ),
+    (
+        "the head of version 1, at the joiner",
         Which::Second,
-        b"COTVEC2\n\x00",
+        b"COTVEC1\n\x00",
         Measure::Bad {
             offset: 0,
             cause: PeerCause::Head,
@@ -35,25 +44,51 @@ const MEASURED: [(&str, Which, &[u8], Measure); 12] = [
     (
         "a first",
         Which::First,
-        b"COTVEC1\n\x00\x00\x00\x00\x00",
-        Measure::Whole { used: 13 },
+        b"COTVEC2\n\x00\x00\x00\x00\x00\x00",
+        Measure::Whole { used: 14 },
     ),
     (
         "a count",
         Which::First,
-        b"COTVEC1\n\x01\x00\x00",
-        Measure::More { at_least: 14 },
+        b"COTVEC2\n\x00\x01\x00",
+        Measure::More { at_least: 16 },
     ),
     (
-        "a name",
+        "a run",
         Which::First,
-        b"COTVEC1\n\x00\x00\x00\x00\x01",
-        Measure::More { at_least: 20 },
+        b"COTVEC2\n\x00\x00\x00\x00\x00\x01",
+        Measure::More { at_least: 26 },
     ),
     (
-        "65 sites",
+        "a run of 65,536 names",
         Which::First,
-        b"COTVEC1\n\x41",
+        b"COTVEC2\n\x00\x01\x00\x00\x00\x01\x00\x00\x00\x00\x00\x01\x00\x00\x00\x00\x00\x01\x00\x01\x00\x00\x00\x01",
+        Measure::Whole { used: 32 },
+    ),
+    (
+        "a run that could have been longer",
+        Which::First,
+        b"COTVEC2\n\x00\x01\x00\x00\x00\x00\x00\x02\x00\x00\x00\x02\
+          \x00\x00\x00\x00\x00\x01\x00\x00\x00\x01\x00\x01\x00\x00\x00\x00\x00\x02\x00\x00\x00\x01\x00\x01",
+        Measure::Bad {
+            offset: 32,
+            cause: PeerCause::Frame(Cause::Order),
+        },
+    ),
+    (
+        "a run that names what the state lacks",
+        Which::First,
+        b"COTVEC2\n\x00\x01\x00\x00\x00\x00\x00\x02\x00\x00\x00\x01\
+          \x00\x00\x00\x00\x00\x02\x00\x00\x00\x02\x00\x01",
+        Measure::Bad {
+            offset: 20,
+            cause: PeerCause::Frame(Cause::Stray),
+        },
+    ),
+    (
+        "1,025 sites",
+        Which::First,
+        b"COTVEC2\n\x04\x01",
         Measure::Bad {
             offset: 8,
             cause: PeerCause::Frame(Cause::Range),
@@ -62,9 +97,9 @@ const MEASURED: [(&str, Which, &[u8], Measure); 12] = [
     (
         "sites that fall",
         Which::First,
-        b"COTVEC1\n\x02\x01\x00\x00\x00\x01\x00\x00\x00\x00\x01",
+        b"COTVEC2\n\x00\x02\x00\x01\x00\x00\x00\x01\x00\x00\x00\x00\x00\x01",
         Measure::Bad {
-            offset: 14,
+            offset: 16,
             cause: PeerCause::Frame(Cause::Order),
         },
     ),
@@ -72,13 +107,13 @@ const MEASURED: [(&str, Which, &[u8], Measure); 12] = [
         "a second",
         Which::Second,
         SECOND,
-        Measure::Whole { used: 43 },
+        Measure::Whole { used: 47 },
     ),
     (
         "cut before its end mark",
         Which::Second,
         CUT,
-        Measure::More { at_least: 43 },
+        Measure::More { at_least: 47 },
     ),
     (
         "an end mark, and a byte more",
@@ -117,9 +152,9 @@ fn measures(reader: &mut MessageReader, piece: &[u8], wanted: Measure) -> Result
 /// The same for the head, the state, and what follows.
 fn measures_all(reader: &mut MessageReader) -> Result<bool, Memory> {
     Ok(
-        measures(reader, &SECOND[..8], Measure::More { at_least: 9 })?
-            && measures(reader, &SECOND[8..18], Measure::More { at_least: 22 })?
-            && measures(reader, &SECOND[18..], Measure::Whole { used: 43 })?
+        measures(reader, &SECOND[..8], Measure::More { at_least: 10 })?
+            && measures(reader, &SECOND[8..20], Measure::More { at_least: 24 })?
+            && measures(reader, &SECOND[20..], Measure::Whole { used: 47 })?
             && reader.bytes() == SECOND,
     )
 }

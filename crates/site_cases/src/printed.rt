@@ -10,13 +10,13 @@ use ttf_form::{Cover, Form, Mark};
 
 /// Messages with their operations, of which a line tells neither the context nor an undo's author.
 const MESSAGES: [(u32, &str); 3] = [
-    (4_294_967_295, "63.1000000 0 |"),
+    (4_294_967_295, "1023.1000000 0 |"),
     (9, "1.1/65534 0 |"),
     (9, "1.1/65535 0 |"),
 ];
 
 const MESSAGE_LINES: &str =
-    "op 4294967295 delete 63.1000000\nop 9 redo 1.1/65534\nop 9 undo 1.1/65535\n";
+    "op 4294967295 delete 1023.1000000\nop 9 redo 1.1/65534\nop 9 undo 1.1/65535\n";
 
 fn put_message(alloc: Global, message: u32, words: &str, out: &mut Vec<u8>) -> Result<(), Fail> {
     let op = op_of(alloc, words)?;
@@ -41,7 +41,7 @@ fn lines_of_messages(rt: HostRuntime) -> Result<(), Fail> {
 
 fn put_repeat(word: &str, out: &mut Vec<u8>) -> Result<(), Memory> {
     match parse_member(word) {
-        Some(member) => verdict_line(Event::Free, 63, member, Verdict::Repeat, out),
+        Some(member) => verdict_line(Event::Free, 1_023, member, Verdict::Repeat, out),
         None => Ok(()),
     }
 }
@@ -57,10 +57,10 @@ fn put_context_full(entries: u32, out: &mut Vec<u8>) -> Result<(), Memory> {
 #[test]
 fn lines_at_the_limits(rt: HostRuntime) -> Result<(), Memory> {
     let mut out = Vec::new(rt.alloc());
-    put_repeat("63.1000000/65535", &mut out)?;
+    put_repeat("1023.1000000/65535", &mut out)?;
     put_number_full(&mut out)?;
     put_context_full(16_385, &mut out)?;
-    let wanted = "free 63 repeat 63.1000000/65535\nno numberfull\nno contextfull 16385\n";
+    let wanted = "free 1023 repeat 1023.1000000/65535\nno numberfull\nno contextfull 16385\n";
     assert!(rt; out.as_slice() == wanted.as_bytes());
     Ok(())
 }

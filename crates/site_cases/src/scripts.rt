@@ -18,14 +18,32 @@ fn a_script_is_done_whole(rt: HostRuntime) -> Result<(), Memory> {
     Ok(())
 }
 
+/// As many sites as there may be, and the frame of version 2 of what the last one inserts, once more without its last byte.
+const FULL: &[u8] = b"sites 1024\nins 1023 0 a\n\
+    raw2 0 000000130103ff00000001000000000000006100000000\
+    000000130103ff000000010000000000000061000000\nshow 0";
+
+const FULL_REPORT: &[u8] =
+    b"op 0 insert 1023.1\ngive 0 integrated 1023.1\nraw2 0 more 23\ntext 1 1\na\n";
+
+#[test]
+fn a_script_of_as_many_sites_as_there_may_be(rt: HostRuntime) -> Result<(), Memory> {
+    let mut out = Vec::new(rt.alloc());
+    let refused = replay(rt.alloc(), FULL, &mut out)?;
+    assert!(rt; !refused && out.as_slice() == FULL_REPORT);
+    Ok(())
+}
+
 /// Lines, and what a session that does them one after the other answers.
-const LINES: [(&str, Result<(), StepBad>); 8] = [
+const LINES: [(&str, Result<(), StepBad>); 10] = [
     ("show 0", Err(StepBad::NoSites)),
     ("# nothing", Ok(())),
     ("sites 1", Ok(())),
-    ("sites 1", Err(StepBad::Twice)),
+    ("sites 1024", Err(StepBad::Twice)),
     ("ins 0 0 a", Ok(())),
     ("show 1", Err(StepBad::NoSite)),
+    ("raw2 1023 00", Err(StepBad::NoSite)),
+    ("raw2 0 00", Ok(())),
     ("give 0 1", Err(StepBad::NoMessage)),
     ("show 0", Ok(())),
 ];
@@ -57,7 +75,9 @@ fn a_session_goes_on_after_a_refused_line(rt: HostRuntime) -> Result<(), LineBad
     let mut out = Vec::new(rt.alloc());
     let mut session = Session::new(rt.alloc());
     let right = goes_on(rt.alloc(), &mut session, &mut out)?;
-    assert!(rt; right && out.as_slice() == b"op 0 insert 0.1\ntext 1 1\na\n".as_slice());
+    assert!(rt;
+        right && out.as_slice() == b"op 0 insert 0.1\nraw2 0 more 4\ntext 1 1\na\n".as_slice()
+    );
     Ok(())
 }
 

@@ -1,14 +1,20 @@
 //! Streams of frames that come in pieces.
 
 ghost use Rattle.std.specs.Prelude.{◌≤◌, length};
+ghost use Rattle.context_diff.specs.Operations.{IsWellFormed};
+ghost use Rattle.context_diff.specs.Ops.{data_of};
 
 use context_diff::Op;
 use op_name::{Member, Memory};
 use std::alloc::Global;
-use wire_codec::{Cause, FrameStream, StreamBad, encode};
+use wire_codec::{Cause, FrameStream, StreamBad, Version, encode, encode2, fits1};
 
 const FIRST: &[u8] =
     b"\x00\x00\x00\x11\x01\x00\x00\x00\x00\x01\x00\x00\x00\x00\x00\x00\x00\x61\x00\x00\x00";
+
+/// Insert 0.1 of version 2.
+const FIRST_OF_TWO: &[u8] =
+    b"\x00\x00\x00\x13\x01\x00\x00\x00\x00\x00\x01\x00\x00\x00\x00\x00\x00\x00\x61\x00\x00\x00\x00";
 
 /// Insert 0.1, insert 0.2 after it, and insert 1.1 of two characters, which knows nothing.
 const THREE: &[u8] =
@@ -16,11 +22,29 @@ const THREE: &[u8] =
     \x00\x00\x00\x16\x01\x00\x00\x00\x00\x02\x00\x00\x00\x01\x00\x00\x00\x62\x01\x00\x00\x00\x00\x01\x00\x00\
     \x00\x00\x00\x17\x04\x01\x00\x00\x00\x01\x00\x00\x00\x00\x00\x02\x00\x00\x00\x70\x00\x00\x00\x71\x00\x00\x00";
 
+/// The same three of version 2, but that the last one is 1023.1, and knows 0.1 and 0.2, both undone.
+const THREE_OF_TWO: &[u8] =
+    b"\x00\x00\x00\x13\x01\x00\x00\x00\x00\x00\x01\x00\x00\x00\x00\x00\x00\x00\x61\x00\x00\x00\x00\
+    \x00\x00\x00\x19\x01\x00\x00\x00\x00\x00\x02\x00\x00\x00\x01\x00\x00\x00\x62\x00\x01\x00\x00\x00\x00\x00\x01\x00\x00\
+    \x00\x00\x00\x29\x04\x03\xff\x00\x00\x00\x01\x00\x00\x00\x00\x00\x02\x00\x00\x00\x70\x00\x00\x00\x71\
+    \x00\x01\x00\x00\x00\x00\x00\x02\x00\x01\x00\x00\x00\x00\x00\x01\x00\x02\x00\x01";
+
+/// Appends the frame of the operation, if its sites can be named.
+fn put(version: Version, op: &Op, out: &mut Vec<u8>) -> Result<(), Memory>
+    requires { IsWellFormed (data_of op.now) }
+{
+    match version {
+        Version::One if fits1(op) => encode(op, out),
+        Version::One => Ok(()),
+        Version::Two => encode2(op, out),
+    }
+}
+
 /// Puts the frames of what a stream gives one after the other.
-fn drain(stream: &mut FrameStream, out: &mut Vec<u8>) -> Result<(), Memory> {
+fn drain(version: Version, stream: &mut FrameStream, out: &mut Vec<u8>) -> Result<(), Memory> {
     for _ in 0..4 {
         match stream.take() {
-            Ok(Some(op)) => encode(&op, out)?,
+            Ok(Some(op)) => put(version, &op, out)?,
             Ok(None) => return Ok(()),
             Err(_) => return Err(Memory),
         }
@@ -28,14 +52,20 @@ fn drain(stream: &mut FrameStream, out: &mut Vec<u8>) -> Result<(), Memory> {
     Ok(())
 }
 
-fn pass(stream: &mut FrameStream, piece: &[u8], out: &mut Vec<u8>) -> Result<(), Memory> {
+fn pass(
+    version: Version,
+    stream: &mut FrameStream,
+    piece: &[u8],
+    out: &mut Vec<u8>,
+) -> Result<(), Memory> {
     stream.feed(piece)?;
-    drain(stream, out)
+    drain(version, stream, out)
 }
 
 /// Whether what a stream gives, fed by the one piece and then by the other, is both.
 fn comes_through(
     alloc: Global,
+    version: Version,
     stream: &mut FrameStream,
     all: &[u8],
     cut: usize,
@@ -44,22 +74,36 @@ fn comes_through(
 {
     let (front, rest) = all.split_at(cut);
     let mut out = Vec::new(alloc);
-    pass(stream, front, &mut out)?;
-    pass(stream, rest, &mut out)?;
+    pass(version, stream, front, &mut out)?;
+    pass(version, stream, rest, &mut out)?;
     Ok(out.as_slice() == all && stream.rest() == 0)
 }
 
-fn comes_through_cut(alloc: Global, all: &[u8], cut: usize) -> Result<bool, Memory>
+fn comes_through_cut(
+    alloc: Global,
+    version: Version,
+    all: &[u8],
+    cut: usize,
+) -> Result<bool, Memory>
     requires { cut ≤ length all.now }
 {
-    let mut stream = FrameStream::new(alloc)?;
-    comes_through(alloc, &mut stream, all, cut)
+    let mut stream = FrameStream::of(alloc, version)?;
+    comes_through(alloc, version, &mut stream, all, cut)
 }
 
 #[test]
 fn a_stream_cut_at_each_place(rt: HostRuntime) -> Result<(), Memory> {
     for cut in 0..THREE.len() {
-        assert!(rt; comes_through_cut(rt.alloc(), THREE, cut)?, "{cut}");
+        assert!(rt;
+            comes_through_cut(rt.alloc(), Version::One, THREE, cut)?,
+            "{cut}"
+        );
+    }
+    for cut in 0..THREE_OF_TWO.len() {
+        assert!(rt;
+            comes_through_cut(rt.alloc(), Version::Two, THREE_OF_TWO, cut)?,
+            "{cut}"
+        );
     }
     Ok(())
 }
@@ -121,17 +165,22 @@ fn is_kind_at(answer: Answer, at: u64) -> bool {
     }
 }
 
-fn goes_on_after_a_part(stream: &mut FrameStream) -> Result<bool, Memory> {
-    stream.feed(&FIRST[..5])?;
+fn goes_on_after_a_part(stream: &mut FrameStream, first: &[u8]) -> Result<bool, Memory>
+    requires { 5 ≤ length first.now }
+{
+    let (front, behind) = first.split_at(5);
+    stream.feed(front)?;
     let waits = is_nothing(given(stream)) && stream.rest() == 5;
-    stream.feed(&FIRST[5..])?;
+    stream.feed(behind)?;
     Ok(waits && is_first(given(stream)) && stream.rest() == 0)
 }
 
 #[test]
 fn a_stream_fed_by_a_part_of_a_frame(rt: HostRuntime) -> Result<(), Memory> {
     let mut stream = FrameStream::new(rt.alloc())?;
-    let right = goes_on_after_a_part(&mut stream)?;
+    let mut second = FrameStream::new2(rt.alloc())?;
+    let right = goes_on_after_a_part(&mut stream, FIRST)?
+        && goes_on_after_a_part(&mut second, FIRST_OF_TWO)?;
     assert!(rt; right);
     Ok(())
 }

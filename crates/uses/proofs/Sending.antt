@@ -5,10 +5,11 @@ use Rattle.std.proofs.Math.Seq.{drop-cons, drop-length}
 use Rattle.std.proofs.lemmas.List.{take-append-drop}
 use Rattle.std.proofs.lemmas.Option.{slice_get_within, get_or_from_slice_get}
 use Rattle.context_diff.specs.Operations.{OpData, IsWellFormed}
+use Rattle.wire_codec.specs.declared.version.Version.TheVariants.{Two}
 use Rattle.wire_codec.specs.Spelling.{frame}
 use Rattle.wire_codec.specs.Judging.{IsFrame}
 use Rattle.wire_codec.specs.Answers.{HasFrame}
-use Rattle.wire_codec.proofs.CallerLemmas.{frame_once}
+use Rattle.wire_codec.proofs.CallerLemmas.{fits_two, frame_once}
 use Rattle.cot_site.specs.States.{State, judged, delivered}
 use Rattle.cot_site.specs.Releases.{settled}
 use Rattle.uses.specs.declared.stop.Stop.{Stop}
@@ -18,7 +19,7 @@ use Rattle.uses.specs.Mail.{is_taken, last_first, AreTaken, IsReceived, IsUnrece
 -- ---- one operation
 
 -- bytes that begin with the frame of an operation aren't received for the reason for which that one isn't taken in
-pub unreceived : (bytes : List ℕ) (o : OpData) (used : ℕ) (s t : State) (why : Stop) → IsFrame bytes o used → IsUnsent o s t why
+pub unreceived : (bytes : List ℕ) (o : OpData) (used : ℕ) (s t : State) (why : Stop) → IsFrame Two bytes o used → IsUnsent o s t why
     → IsUnreceived bytes s t why
 unreceived bytes o used s t stop.Memory begins unsent = record { op = o; used = used; begins = begins; state = unsent }
 unreceived bytes o used s t stop.Edit begins unsent = absurd unsent
@@ -28,21 +29,24 @@ unreceived bytes o used s t stop.Apart begins unsent = absurd unsent
 unreceived bytes o used s t (stop.Output error) begins unsent = absurd unsent
 
 -- the bytes are an operation's frame
-module _ (o : OpData) (formed : IsWellFormed o) (bytes : List ℕ) (is : bytes ≡ frame o) where
+module _ (o : OpData) (formed : IsWellFormed o) (bytes : List ℕ) (is : bytes ≡ frame Two o) where
   -- so they are no other's
-  only : (p : OpData) (used : ℕ) → IsFrame bytes p used → p ≡ o
-  only p used begins = frame_once p o (drop used bytes) [] begins.well formed (sym begins.parts ∙ is ∙ sym (append-nil (frame o)))
+  only : (p : OpData) (used : ℕ) → IsFrame Two bytes p used → p ≡ o
+  only p used begins =
+      frame_once Two p o (drop used bytes) [] begins.well begins.fits formed (fits_two o formed)
+      (sym begins.parts ∙ is ∙ sym (append-nil (frame Two o)))
 
-  begins_with : HasFrame bytes
+  begins_with : HasFrame Two bytes
   begins_with = (
-    length (frame o),
+    length (frame Two o),
     record {
       op = o;
       is = record {
         well = formed;
+        fits = fits_two o formed;
         size = refl;
-        parts = is ∙ sym (ap (λ (rest : List ℕ). frame o ++ rest) (ap (drop (length (frame o))) is ∙ drop-length (frame o))
-            ∙ append-nil (frame o));
+        parts = is ∙ sym (ap (λ (rest : List ℕ). frame Two o ++ rest)
+            (ap (drop (length (frame Two o))) is ∙ drop-length (frame Two o)) ∙ append-nil (frame Two o));
       };
     },
   )

@@ -1,6 +1,7 @@
 -- What a site becomes by the frames that it gets, and why one isn't taken in.
 use Rattle.std.specs.Prelude.{◌≡◌, ◌⊎◌, ℕ, Bool, true, false, List, [], ◌∷◌, ◌++◌}
 use Rattle.context_diff.specs.Operations.{OpData}
+use Rattle.wire_codec.specs.declared.version.Version.TheVariants.{Two}
 use Rattle.wire_codec.specs.Judging.{IsFrame}
 use Rattle.wire_codec.specs.Answers.{HasFrame}
 use Rattle.site_answers.specs.declared.release.Release.{Release}
@@ -34,7 +35,7 @@ AreTaken s (o ∷ os) = (is_taken (judged (last_first s os) o) ≡ true) × AreT
 pub record IsReceived (bytes : List ℕ) (s t : State) : Type 0 where
   pub op : OpData
   pub used : ℕ
-  pub begins : IsFrame bytes op used
+  pub begins : IsFrame Two bytes op used
   pub taken : is_taken (judged s op) ≡ true
   pub state : t ≡ settled (delivered s op)
 
@@ -47,14 +48,14 @@ IsBrokenOff o s t = (t ≡ s) ⊎ ((is_taken (judged s o) ≡ true) × ((listed 
 pub record IsOfBrokenOff (bytes : List ℕ) (s t : State) : Type 0 where
   pub op : OpData
   pub used : ℕ
-  pub begins : IsFrame bytes op used
+  pub begins : IsFrame Two bytes op used
   pub state : IsBrokenOff op s t
 
 -- the bytes begin with the frame of an operation that is refused
 pub record IsOfRefused (bytes : List ℕ) (s : State) : Type 0 where
   pub op : OpData
   pub used : ℕ
-  pub begins : IsFrame bytes op used
+  pub begins : IsFrame Two bytes op used
   pub refused : is_taken (judged s op) ≡ false
 
 -- why bytes were not received: they begin with no frame, or their operation is refused, and either way the state stays; or out of
@@ -62,7 +63,7 @@ pub record IsOfRefused (bytes : List ℕ) (s : State) : Type 0 where
 abbrev pub IsUnreceived : List ℕ → State → State → Stop → Type 0
 IsUnreceived bytes s t stop.Memory = IsOfBrokenOff bytes s t
 IsUnreceived bytes s t stop.Edit = ⊥
-IsUnreceived bytes s t stop.NoFrame = (¬ HasFrame bytes) × (t ≡ s)
+IsUnreceived bytes s t stop.NoFrame = (¬ HasFrame Two bytes) × (t ≡ s)
 IsUnreceived bytes s t stop.Refused = IsOfRefused bytes s × (t ≡ s)
 IsUnreceived bytes s t stop.Apart = ⊥
 IsUnreceived bytes s t (stop.Output error) = ⊥

@@ -13,7 +13,7 @@ use context_diff::Op;
 use cot_site::{Site, Verdict};
 use op_name::Memory;
 use std::alloc::Global;
-use wire_codec::{Decoded, decode, encode};
+use wire_codec::{Decoded, decode2, encode2};
 
 /// Sends all operations that a site has integrated, the last one first. At the other site each waits until those that it
 /// depends on are there. One that is there already is a repeat and changes nothing; `peer_exchange` sends only what is
@@ -44,7 +44,7 @@ fn send(alloc: Global, op: &Op, to: &mut Site) -> Result<(), Stop>
     ensures refused { IfErr result (IsUnsent (data_of op.now) (state_of to.old) (state_of to.new)) }
 {
     let mut frame = Vec::new(alloc);
-    encode(op, &mut frame)?;
+    encode2(op, &mut frame)?;
     receive(alloc, to, &frame)
 }
 
@@ -54,7 +54,7 @@ fn receive(alloc: Global, site: &mut Site, bytes: &[u8]) -> Result<(), Stop>
     ensures taken { OnOk result (IsReceived bytes.now (state_of site.old) (state_of site.new)) }
     ensures refused { IfErr result (IsUnreceived bytes.now (state_of site.old) (state_of site.new)) }
 {
-    match decode(alloc, bytes) {
+    match decode2(alloc, bytes) {
         Ok(Decoded::Got { op, .. }) => take_in(alloc, site, &op),
         Ok(_) => Err(Stop::NoFrame),
         Err(Memory) => Err(Stop::Memory),
