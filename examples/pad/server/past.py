@@ -1,11 +1,11 @@
 """The text at an earlier moment: what a document showed after the first so many operations of its history.
 
-Another site takes the frames of these in. It shows, and makes no edit, so any number will do for it; 63 is kept free for that. Now and
+Another site takes the frames of these in. It shows, and makes no edit, so any number will do for it; 1,023 is kept free for that. Now and
 then its log is kept, so that the next moment doesn't begin from nothing.
 """
 from .library import cotpad
 
-VIEWER = 63
+VIEWER = 1023
 EVERY = 500
 
 

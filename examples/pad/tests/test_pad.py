@@ -460,7 +460,7 @@ def test_numbers_are_given_out_once(pad, tmp_path):
     assert [pad.person(None).number for _ in range(3)] == [0, 1, 2]
     cotpad.Document.create(tmp_path / "7.cotpad", 7).close()  # made by a server that stopped before pad.json had it
     assert pad.person(None).number == 8
-    for number in range(9, 63):
+    for number in range(9, 1023):
         assert pad.person(None).number == number
     with pytest.raises(Unknown, match="given out its numbers"):
         pad.person(None)

@@ -1,6 +1,6 @@
 """Bytes of several frames, cut by their lengths."""
 LENGTH = 4
-LONGEST = 116047
+LONGEST = 171025
 
 
 def split(data):

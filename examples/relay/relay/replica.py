@@ -2,8 +2,8 @@
 from .frames import split
 from .library import cotpad
 
-SITES = 64
-LOG_HEAD = b"COTLOG1\n"
+SITES = 1024
+LOG_HEAD = b"COTLOG2\n"
 REFUSED = (cotpad.Became.FORGED, cotpad.Became.NOT_CLOSED, cotpad.Became.PLACE_OUT)
 TAKEN = (cotpad.Became.INTEGRATED, cotpad.Became.WAITS)
 

@@ -7,7 +7,7 @@ import redis.exceptions
 from redis.asyncio.retry import Retry
 from redis.backoff import NoBackoff
 
-SITES = 64
+SITES = 1024
 ENTRIES = 500  # read at once
 FAULTS = (redis.exceptions.RedisError, OSError, TimeoutError)
 

@@ -30,12 +30,15 @@ def tearDownModule():
     FOLDER.cleanup()
 
 
+def of(number, length):
+    return number.to_bytes(length, "big")
+
+
 def insert(site, number, place, character, counts=(), undone=()):
     """The frame of an insert, spelled by hand as docs/FORMATS.md says: the context has these counts, and these undone names."""
-    body = bytes([1, site]) + number.to_bytes(4, "big") + place.to_bytes(4, "big") + ord(character).to_bytes(4, "big")
-    body += bytes([len(counts)]) + b"".join(bytes([it]) + count.to_bytes(4, "big") for it, count in counts)
-    body += len(undone).to_bytes(2, "big")
-    body += b"".join(bytes([it]) + number.to_bytes(4, "big") + generation.to_bytes(2, "big") for it, number, generation in undone)
+    body = bytes([1]) + of(site, 2) + of(number, 4) + of(place, 4) + of(ord(character), 4)
+    body += of(len(counts), 2) + b"".join(of(it, 2) + of(count, 4) for it, count in counts)
+    body += of(len(undone), 2) + b"".join(of(it, 2) + of(number, 4) + of(1, 2) + of(generation, 2) for it, number, generation in undone)
     return len(body).to_bytes(4, "big") + body
 
 
@@ -174,12 +177,12 @@ class Numbers(Case):
         await again.caught_up()
         self.assertEqual((again.number, again.text), (1, "a"))
 
-    async def test_the_65th_is_refused_by_name(self):
+    async def test_the_1025th_is_refused_by_name(self):
         async with Room(ENGINE.url, self.room) as room:
-            given = [(await room.number(f"c{it}:t"))[1] for it in range(64)]
-            self.assertEqual(given, list(range(64)))
+            given = [(await room.number(f"c{it}:t"))[1] for it in range(1024)]
+            self.assertEqual(given, list(range(1024)))
             self.assertEqual((await room.number("c7:t"))[1], 7)
-        with self.assertRaisesRegex(RoomFull, "the_65th_is_refused.*all 64 numbers.*zoe"):
+        with self.assertRaisesRegex(RoomFull, "the_1025th_is_refused.*all 1024 numbers.*zoe"):
             await self.peer("zoe")
 
     async def test_a_crash_between_token_and_number_takes_one_number(self):

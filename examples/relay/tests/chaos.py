@@ -28,7 +28,7 @@ from relay.replica import spelled  # noqa: E402
 
 ROOM, PEERS = "chaos", 8
 # The insert 62.1 of `w` at place 0, which was made after 61.1: nobody has that.
-WAITS = bytes.fromhex("00000016" "01" "3e" "00000001" "00000000" "00000077" "01" "3d" "00000001" "0000")
+WAITS = bytes.fromhex("00000019" "01" "003e" "00000001" "00000000" "00000077" "0001" "003d" "00000001" "0000")
 UNDONE = 40  # names that are undone: each makes all later frames longer
 PATIENCE = 60.0  # seconds in which all have to meet in the end
 
