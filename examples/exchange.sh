@@ -9,7 +9,7 @@ work=$(mktemp -d)
 server=
 trap 'test -z "$server" || kill "$server" 2> /dev/null || true; rm -rf "$work"' EXIT
 
-printf 'COTLOG1\n' > "$work/empty"
+printf 'COTLOG2\n' > "$work/empty"
 "$program" edit 0 ins 0 'Agenda: budget' < "$work/empty" > "$work/shared"
 
 # Ann, site 0, and Bob, site 1, know nothing of each other's edit.

@@ -6,7 +6,7 @@ set -e
 program=$("$(dirname "$0")/../tools/program")
 work=$(mktemp -d)
 trap 'rm -rf "$work"' EXIT
-printf 'COTLOG1\n' > "$work/empty"
+printf 'COTLOG2\n' > "$work/empty"
 "$program" edit 1 ins 0 x < "$work/empty" > "$work/x"
 "$program" edit 0 ins 0 a < "$work/empty" > "$work/a"
 "$program" edit 1 undo 1.1 < "$work/x" > "$work/undone"

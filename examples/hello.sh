@@ -5,7 +5,7 @@ set -e
 program=$("$(dirname "$0")/../tools/program")
 work=$(mktemp -d)
 trap 'rm -rf "$work"' EXIT
-printf 'COTLOG1\n' > "$work/0"
+printf 'COTLOG2\n' > "$work/0"
 "$program" edit 0 ins 0 Hello < "$work/0" > "$work/1"
 "$program" edit 0 ins 5 ', you' < "$work/1" > "$work/2"
 "$program" edit 1 del 0 < "$work/2" > "$work/3"

@@ -9,6 +9,7 @@ whenever it is looked at, and a few hundred operations take minutes.
   python3 tools/reference/cotpad_reference.py replay < SCRIPT
   python3 tools/reference/cotpad_reference.py show < LOG
   python3 tools/reference/cotpad_reference.py playback < LOG
+  python3 tools/reference/cotpad_reference.py upgrade < LOG
   python3 tools/reference/cotpad_reference.py explain MEMBER < LOG
   python3 tools/reference/cotpad_reference.py edit SITE ins V TEXT < LOG     and so for run, nl, del, undo, redo
 
@@ -20,8 +21,8 @@ import sys
 from dataclasses import dataclass, field
 from typing import FrozenSet, List, NamedTuple, Tuple
 
-SITES, NUMBERS, GENERATIONS, PLACES, UNDO_ENTRIES, LETTERS = 64, 1_000_000, 65_535, 4_294_967_295, 16_384, 256
-LONGEST_LINE, LONGEST_BODY, MOST_BYTES = 262_144, 116_047, 67_108_864
+SITES, NUMBERS, GENERATIONS, PLACES, UNDO_ENTRIES, LETTERS = 1_024, 1_000_000, 65_535, 4_294_967_295, 16_384, 256
+LONGEST_LINE, MOST_BYTES = 262_144, 67_108_864
 
 
 # ---- Names, members, contexts
@@ -524,44 +525,149 @@ class Bad(Exception):
     """wire_codec/Reading.antt, `fault`: a cause and the offset at which it is."""
 
 
+class Version(NamedTuple):
+    """wire_codec/Versions.antt, `sites`, `site_len`, `longest`: what the two versions of frames differ in, but for their undone names:
+    how many sites can be named, the bytes of a site and of how many there are, and those of the longest body"""
+
+    sites: int
+    site_len: int
+    longest: int
+
+
+ONE, TWO = Version(64, 1, 116_047), Version(1_024, 2, 171_025)
+
+
+def own_at(version):
+    """wire_codec/Versions.antt, `own_at`: after the four bytes of the length, the kind, and a site"""
+    return 5 + version.site_len
+
+
+def fits(version, op):
+    """wire_codec/Versions.antt, `Fits`: a frame of this version can name all sites of the operation. `own_sites`, `context_sites`: its own,
+    or its author's and its target's, and those of its context"""
+    own = [op.name.site] if is_original(op) else [op.author, op.target.site]
+    return all(site < version.sites for site in [*own, *(member.name.site for member in op.context)])
+
+
+class Listing(NamedTuple):
+    """wire_codec/Runs.antt, `version_of`, `runs_width`: how undone names are listed: the version of their sites, the bytes of how many runs
+    there are, those of the length of a run, none where each name is listed by itself, and the most names"""
+
+    version: Version
+    runs_width: int
+    length_width: int
+    most: int
+
+
+NAMES = Listing(ONE, 2, 0, UNDO_ENTRIES)
+RUNS = Listing(TWO, 2, 2, UNDO_ENTRIES)
+LONG_RUNS = Listing(TWO, 4, 4, 2**32)
+
+
+def listing_of(version):
+    """wire_codec/Runs.antt, `listing_of`: frames of version 1 list names, those of version 2 runs"""
+    return NAMES if version == ONE else RUNS
+
+
+class Run(NamedTuple):
+    """wire_codec/Runs.antt, `RunData`: so many names from the first one on, each with this generation"""
+
+    first: Name
+    length: int
+    generation: int
+
+
+def further(name, k):
+    """wire_codec/Runs.antt, `further`: the name that is so many numbers further"""
+    return Name(name.site, name.number + k)
+
+
+def names_in(run):
+    """wire_codec/Runs.antt, `names_in`: the names of a run"""
+    return [further(run.first, k) for k in range(run.length)]
+
+
+def last_name(run):
+    """wire_codec/Runs.antt, `last_name`: the last name of a run"""
+    return further(run.first, run.length - 1)
+
+
+def goes_on(run, other):
+    """wire_codec/Runs.antt, `goes_on`: the second run directly continues the first: of the same site and generation, from the next number
+    on"""
+    return other.first == further(run.first, run.length) and other.generation == run.generation
+
+
+def runs_of(listing, generations):
+    """wire_codec/Runs.antt, `runs_of`: the runs of undone names, each as long as can be; or each name by itself"""
+    runs = []
+    for name, generation in generations.items():
+        run = Run(name, 1, generation)
+        if listing != NAMES and runs and goes_on(runs[-1], run):
+            before = runs.pop()
+            run = before._replace(length=before.length + 1)
+        runs.append(run)
+    return runs
+
+
 def number_bytes(width, value):
     return value.to_bytes(width, "big")
 
 
-def name_bytes(name):
-    """wire_codec/Spelling.antt, `name_bytes`: a site has one byte, a number four"""
-    return number_bytes(1, name.site) + number_bytes(4, name.number)
+def site_bytes(version, site):
+    """wire_codec/Spelling.antt, `site_bytes`: a site has one byte, or two; so has how many sites there are"""
+    return number_bytes(version.site_len, site)
 
 
-def context_bytes(context):
-    """wire_codec/Spelling.antt, `context_bytes`: how many sites, and these with their counts; how many undone names, and these with
-    their generations"""
-    counts, generations = counts_of(context), generations_of(context)
-    data = number_bytes(1, len(counts)) + b"".join(number_bytes(1, site) + number_bytes(4, count) for site, count in counts.items())
-    data += number_bytes(2, len(generations))
-    return data + b"".join(name_bytes(name) + number_bytes(2, generation) for name, generation in generations.items())
+def name_bytes(version, name):
+    """wire_codec/Spelling.antt, `name_bytes`: a site, and the four bytes of a number"""
+    return site_bytes(version, name.site) + number_bytes(4, name.number)
 
 
-def frame(op):
-    """wire_codec/Spelling.antt, `frame`: the one frame of an operation: four bytes of length, and the body of that length. An insert
-    of one character has a kind of its own."""
+def counts_bytes(version, counts):
+    """wire_codec/Spelling.antt, `counts_bytes`: how many sites, and these with their counts"""
+    return site_bytes(version, len(counts)) + b"".join(site_bytes(version, site) + number_bytes(4, count) for site, count in counts.items())
+
+
+def runs_bytes(listing, runs):
+    """wire_codec/Spelling.antt, `runs_bytes`: how many runs, and these. `run_bytes`: the first name of a run, how many names it has, and
+    their generation"""
+    data = number_bytes(listing.runs_width, len(runs))
+    for first, length, generation in runs:
+        data += name_bytes(listing.version, first)
+        data += number_bytes(listing.length_width, length) if listing.length_width else b""
+        data += number_bytes(2, generation)
+    return data
+
+
+def context_bytes(version, context):
+    """wire_codec/Spelling.antt, `context_bytes`: the sites with their counts, and the undone names with their generations"""
+    listing = listing_of(version)
+    return counts_bytes(version, counts_of(context)) + runs_bytes(listing, runs_of(listing, generations_of(context)))
+
+
+def head_bytes(version, op):
+    """wire_codec/Spelling.antt, `head_bytes`: an operation without its context. An insert of one character has a kind of its own."""
     if isinstance(op, Insert):
         length = b"" if len(op.text) == 1 else number_bytes(2, len(op.text))
-        kind = b"\x04" if length else b"\x01"
-        head = kind + name_bytes(op.name) + number_bytes(4, op.place) + length + b"".join(number_bytes(4, code) for code in op.text)
-    elif isinstance(op, Delete):
-        head = b"\x02" + name_bytes(op.name) + number_bytes(4, op.place)
-    else:
-        head = b"\x03" + number_bytes(1, op.author) + name_bytes(op.target) + number_bytes(2, op.generation)
-    body = head + context_bytes(op.context)
+        text = length + b"".join(number_bytes(4, code) for code in op.text)
+        return (b"\x04" if length else b"\x01") + name_bytes(version, op.name) + number_bytes(4, op.place) + text
+    if isinstance(op, Delete):
+        return b"\x02" + name_bytes(version, op.name) + number_bytes(4, op.place)
+    return b"\x03" + site_bytes(version, op.author) + name_bytes(version, op.target) + number_bytes(2, op.generation)
+
+
+def frame(version, op):
+    """wire_codec/Spelling.antt, `frame`: the one frame of an operation in a version: four bytes of length, and the body of that length"""
+    body = head_bytes(version, op) + context_bytes(version, op.context)
     return number_bytes(4, len(body)) + body
 
 
 class Body:
     """wire_codec/Reading.antt, `LeftData`: the bytes that are left of a body, and the offset of the first of them"""
 
-    def __init__(self, data):
-        self.data, self.at = data, 4
+    def __init__(self, version, data, at=4):
+        self.version, self.data, self.at = version, data, at
 
     def number(self, width):
         """wire_codec/Reading.antt, `number`: a number of a width"""
@@ -578,7 +684,8 @@ class Body:
         return value
 
     def not_zero(self, width, high):
-        """wire_codec/Reading.antt, `count_at`, `entry_at`: of a count or a generation of a context 0 is a fault of its own"""
+        """wire_codec/Reading.antt, `count_at`, `some_at`: of a count, a length of a run or a generation of a context 0 is a fault of its
+        own"""
         start, value = self.at, self.number(width)
         if value == 0:
             raise Bad("zero", start)
@@ -586,9 +693,13 @@ class Body:
             raise Bad("range", start)
         return value
 
+    def site(self):
+        """wire_codec/Reading.antt, `site_at`"""
+        return self.bounded(self.version.site_len, 0, self.version.sites - 1)
+
     def name(self):
         """wire_codec/Reading.antt, `name_at`"""
-        return Name(self.bounded(1, 0, SITES - 1), self.bounded(4, 1, NUMBERS))
+        return Name(self.site(), self.bounded(4, 1, NUMBERS))
 
     def character(self):
         """wire_codec/Reading.antt, `character_at`"""
@@ -606,61 +717,87 @@ class Body:
         """wire_codec/Reading.antt, `characters_at`: so many characters"""
         return tuple(self.character() for _ in range(length))
 
-    def counts(self):
-        """wire_codec/Reading.antt, `counts_at`: sites rising, each with its count"""
+    def so_many_counts(self, many):
+        """wire_codec/Reading.antt, `count_at`: sites rising, each with its count"""
         counts, low = {}, 0
-        for _ in range(self.bounded(1, 0, SITES)):
-            start, site = self.at, self.bounded(1, 0, SITES - 1)
+        for _ in range(many):
+            start, site = self.at, self.site()
             if site < low:
                 raise Bad("order", start)
             counts[site], low = self.not_zero(4, NUMBERS), site + 1
         return counts
 
-    def generations(self):
-        """wire_codec/Reading.antt, `entries_at`: undone names rising, each with its generation; and the offset of each"""
-        generations, starts, before = {}, {}, None
-        for _ in range(self.bounded(2, 0, UNDO_ENTRIES)):
-            start, name = self.at, self.name()
-            if before is not None and not before < name:
-                raise Bad("order", start)
-            generations[name], starts[name], before = self.not_zero(2, GENERATIONS), start, name
-        return generations, starts
+    def counts(self):
+        """wire_codec/Reading.antt, `counts_at`"""
+        return self.so_many_counts(self.bounded(self.version.site_len, 0, self.version.sites))
+
+    def run(self, listing, before, so_far):
+        """wire_codec/Reading.antt, `next_run_at`: so many names from a first one on, above the last name of the run before; their numbers
+        are in range, and there are not too many. `is_apart`: a run that could have been part of the run before is none."""
+        start, first = self.at, self.name()
+        if before is not None and not last_name(before) < first:
+            raise Bad("order", start)
+        most = min(NUMBERS + 1 - first.number, listing.most - so_far)
+        length = self.not_zero(listing.length_width, most) if listing.length_width else 1
+        run = Run(first, length, self.not_zero(2, GENERATIONS))
+        if before is not None and listing != NAMES and goes_on(before, run):
+            raise Bad("order", start)
+        return run
+
+    def so_many_runs(self, listing, many):
+        """wire_codec/Reading.antt, `runs_at`: runs, each with the offset at which it stands"""
+        runs, so_far = [], 0
+        for _ in range(many):
+            start = self.at
+            runs.append((start, self.run(listing, runs[-1][1] if runs else None, so_far)))
+            so_far += runs[-1][1].length
+        return runs
+
+    def runs(self, listing):
+        """wire_codec/Reading.antt, `runs_at`"""
+        return self.so_many_runs(listing, self.bounded(listing.runs_width, 0, UNDO_ENTRIES))
+
+
+def context_in(counts, runs):
+    """wire_codec/Judging.antt, `stray_from`: the context of these; each name of each run is an original of it, else the fault is at the
+    first run with a name that isn't"""
+    for start, run in runs:
+        if any(counts.get(name.site, 0) < name.number for name in names_in(run)):
+            raise Bad("stray", start)
+    return context_with(counts, {name: run.generation for _, run in runs for name in names_in(run)})
 
 
 def op_in(body):
     """wire_codec/Judging.antt, `body_at`: a whole body: its fields, nothing after them, and then the rules own, target and stray"""
     kind = body.bounded(1, 1, 4, "kind")
-    author = body.bounded(1, 0, SITES - 1) if kind == 3 else None
+    author = body.site() if kind == 3 else None
     name = body.name()
     value = body.bounded(2, 1, GENERATIONS) if kind == 3 else body.bounded(4, 0, PLACES)
     text = body.text(body.length(kind)) if kind in (1, 4) else None
-    counts = body.counts()
-    generations, starts = body.generations()
+    counts, runs = body.counts(), body.runs(listing_of(body.version))
     if body.at < len(body.data):
         raise Bad("length", body.at)
     if kind != 3 and counts.get(name.site, 0) + 1 != name.number:
-        raise Bad("own", 6)
-    if kind == 3 and (counts.get(name.site, 0) < name.number or generations.get(name, 0) + 1 != value):
-        raise Bad("target", 6)
-    for undone in generations:
-        if counts.get(undone.site, 0) < undone.number:
-            raise Bad("stray", starts[undone])
-    context = context_with(counts, generations)
+        raise Bad("own", own_at(body.version))
+    before = next((run.generation for _, run in runs if name in names_in(run)), 0)
+    if kind == 3 and (counts.get(name.site, 0) < name.number or before + 1 != value):
+        raise Bad("target", own_at(body.version))
+    context = context_in(counts, runs)
     if text is not None:
         return Insert(name, value, text, context)
     return Delete(name, value, context) if kind == 2 else Undo(author, name, value, context)
 
 
-def judge(data):
+def judge(version, data):
     """wire_codec/Judging.antt, `judge`: the operation of the frame that the bytes begin with, and how many bytes it has"""
     length = int.from_bytes(data[:4], "big")
     if len(data) < 4:
         raise More(4)
-    if length > LONGEST_BODY:
+    if length > version.longest:
         raise Bad("toolong", 0)
     if len(data) < 4 + length:
         raise More(4 + length)
-    return op_in(Body(data[: 4 + length])), 4 + length
+    return op_in(Body(version, data[: 4 + length])), 4 + length
 
 
 # ---- Lines of scripts
@@ -719,6 +856,7 @@ TABLE = {
     "give": [site_in, number_in],
     "all": [site_in],
     "raw": [site_in, octets_in],
+    "raw2": [site_in, octets_in],
     "show": [site_in],
     "state": [site_in],
 }
@@ -771,6 +909,9 @@ def puts(v, texts):
 
 # a line that types, and the texts that it puts
 TYPED = {"ins": letters, "run": pieces, "nl": letters}
+
+# session_replay/LineSteps.antt, `raw_word`: a line of bytes, and the version of its frames
+FRAMED = {"raw": ONE, "raw2": TWO}
 
 
 # ---- Sessions and their reports
@@ -825,16 +966,16 @@ class Session:
         for op in list(self.messages):
             self.give(state, op, many=True)
 
-    def take_raw(self, state, data):
+    def take_raw(self, word, state, data):
         """session_replay/LineSteps.antt, `framed`: a frame is delivered, and what follows it goes on; bytes that begin with none are
         reported"""
         while data:
             try:
-                op, used = judge(data)
+                op, used = judge(FRAMED[word], data)
             except More as least:
-                return self.write("raw", state.number, "more", least)
+                return self.write(word, state.number, "more", least)
             except Bad as why:
-                return self.write("raw", state.number, "bad", *why.args)
+                return self.write(word, state.number, "bad", *why.args)
             self.give(state, op)
             data = data[used:]
 
@@ -888,8 +1029,8 @@ class Session:
             self.give(state, self.messages[given[0]])
         elif word == "all":
             self.give_all(state)
-        elif word == "raw":
-            self.take_raw(state, *given)
+        elif word in FRAMED:
+            self.take_raw(word, state, *given)
         elif word == "show":
             self.show(state)
         elif word == "state":
@@ -925,24 +1066,26 @@ def script_report(script):
 
 # ---- Logs
 
-HEADER = b"COTLOG1\n"
+# session_log/Logs.antt, `header`: of a log of each version
+HEADERS = {ONE: b"COTLOG1\n", TWO: b"COTLOG2\n"}
 
 
 def log_of(state):
     """session_log/Logs.antt, `log_of`: a history, in the order of integration, and then the operations that wait, in the order of
-    arrival"""
-    return HEADER + b"".join(frame(op) for op in state.history + state.waiting)
+    arrival; in version 2"""
+    return HEADERS[TWO] + b"".join(frame(TWO, op) for op in state.history + state.waiting)
 
 
 def read_log(data):
-    """session_log/Readings.antt, `placed_from`: the operations of a log, each with the offset of its frame. `IsUnread`: or why the
-    bytes were not read."""
-    if not data.startswith(HEADER):
+    """session_log/Readings.antt, `placed_from`: the operations of a log, each with the offset of its frame, which is of the version that
+    the header names. `IsUnread`: or why the bytes were not read."""
+    version = next((version for version, header in HEADERS.items() if data.startswith(header)), None)
+    if version is None:
         raise Refused("log header")
-    placed, at = [], len(HEADER)
+    placed, at = [], len(HEADERS[version])
     while at < len(data):
         try:
-            op, used = judge(data[at : at + 4 + LONGEST_BODY])
+            op, used = judge(version, data[at : at + 4 + version.longest])
         except More:
             raise Refused(f"log cut {at}") from None
         except Bad as why:
@@ -973,6 +1116,125 @@ def edited(state, local, *given):
     except Refused as why:
         raise Refused(f"no {why}") from None
     releases(state)
+
+
+# ---- Exchanges
+
+HEAD, END_MARK = b"COTVEC2\n", bytes(4)
+
+
+def state_bytes(state):
+    """wire_codec/States.antt, `state_bytes`: a set of members, spelled as a context of version 2 is, but for the number of runs and their
+    lengths, which have four bytes each and no limit"""
+    return counts_bytes(TWO, counts_of(state)) + runs_bytes(LONG_RUNS, runs_of(LONG_RUNS, generations_of(state)))
+
+
+def telling(state):
+    """peer_exchange/Messages.antt, `telling`: the message that tells a state"""
+    return HEAD + state_bytes(state)
+
+
+def first_message(history):
+    """peer_exchange/Messages.antt, `first_message`: the joiner tells what it has"""
+    return telling(context_of_all(history))
+
+
+def third_message(history, state):
+    """peer_exchange/Messages.antt, `third_message`: the joiner sends what the server's state lacks. `lacked_frames`: the frames of these
+    operations, in their order. `end_mark`: the four zero bytes after the last of them"""
+    return b"".join(frame(TWO, op) for op in history if member_of(op) not in state) + END_MARK
+
+
+def second_message(history, state):
+    """peer_exchange/Messages.antt, `second_message`: the server tells what it has, and sends what the joiner's state lacks"""
+    return first_message(history) + third_message(history, state)
+
+
+def state_in(data, at):
+    """wire_codec/States.antt, `judge_state`: the state that stands there, and where it ends. A list is judged once it is there whole."""
+
+    def up_to(stop):
+        if len(data) < stop:
+            raise More(stop)
+        return data[:stop]
+
+    counts_at = at + 2
+    sites = int.from_bytes(up_to(counts_at)[at:], "big")
+    if sites > TWO.sites:
+        raise Bad("range", at)
+    counts_end = counts_at + 6 * sites
+    counts = Body(TWO, up_to(counts_end), counts_at).so_many_counts(sites)
+    runs_at = counts_end + 4
+    many = int.from_bytes(up_to(runs_at)[counts_end:], "big")
+    runs_end = runs_at + 12 * many
+    runs = Body(TWO, up_to(runs_end), runs_at).so_many_runs(LONG_RUNS, many)
+    return context_in(counts, runs), runs_end
+
+
+def message_in(which, data):
+    """peer_exchange/Measuring.antt, `measure_of`: the state and the operations that a message tells, and how many bytes it has: a head and
+    a state, unless it is the third, and frames up to the end mark, unless it is the first. Else why it isn't there."""
+    state, ops, at = None, [], 0
+    if which != "third":
+        if len(data) < len(HEAD):
+            raise More(len(HEAD))
+        if not data.startswith(HEAD):
+            raise Bad("head", 0)
+        state, at = state_in(data, len(HEAD))
+    if which == "first":
+        return state, ops, at
+    while data[at : at + 4] != END_MARK:
+        try:
+            op, used = judge(TWO, data[at : at + 4 + TWO.longest])
+        except More as least:
+            raise More(at + least.args[0]) from None
+        except Bad as why:
+            raise Bad(why.args[0], at + why.args[1]) from None
+        ops.append(op)
+        at += used
+    return state, ops, at + 4
+
+
+def received(which, data):
+    """peer_exchange/Refusals.antt, `Spoils`: the message that a peer sends, or why what it sends is none: at the bytes that aren't there,
+    or past the most that a message may have, or at a fault"""
+    try:
+        return message_in(which, data[:MOST_BYTES])
+    except More:
+        raise Refused(f"peer bytes {len(data)} cut" if len(data) < MOST_BYTES else f"peer bytes {MOST_BYTES} limit") from None
+    except Bad as why:
+        raise Refused(f"peer bytes {why.args[1]} {why.args[0]}") from None
+
+
+def take_in_all(state, ops):
+    """peer_exchange/Taking.antt, `all_taken_in`: each operation is delivered, with the releases after it; the first one whose verdict is
+    another than that the site has it now is refused"""
+    for op in ops:
+        verdict = deliver(state, op)
+        if verdict.word not in ("integrated", "repeat"):
+            raise Refused(f"peer op {verdict}")
+        releases(state)
+
+
+def meet(word, data, peer):
+    """cotpad_run/Meeting.antt, `Meets`: what `serve` and `join` write and send, where these bytes come from the peer, and the status"""
+    try:
+        state, sent = load(0, data), b""
+    except Refused as why:
+        return f"refused {why}\n".encode(), b"", 1
+    try:
+        if word == "serve":
+            theirs, _, used = received("first", peer)
+            sent = second_message(state.history, theirs)
+            take_in_all(state, received("third", peer[used:])[1])
+        else:
+            sent = first_message(state.history)
+            theirs, ops, _ = received("second", peer)
+            take_in_all(state, ops)
+            sent += third_message(state.history, theirs)
+    except Refused as why:
+        return f"refused {why}\n".encode(), sent, 7
+    return log_of(state), sent, 0
 
 
 # ---- Forms and explanations
@@ -1102,6 +1364,20 @@ def explain_reply(member, data):
     return explained(history, member).encode()
 
 
+def log_reply(state):
+    """log_replies/Replies.antt, `log_reply`: the log of the state; where it has more bytes than are read again, nothing of it, but how
+    many"""
+    log = log_of(state)
+    if len(log) > MOST_BYTES:
+        raise Refused(f"toolong {len(log)}")
+    return log
+
+
+def upgrade_reply(data):
+    """log_replies/Replies.antt, `IsUpgraded`: the log of the site that was loaded, which is of version 2"""
+    return log_reply(load(0, data))
+
+
 def edit_reply(words, data):
     """log_replies/Replies.antt, `edit_reply`: the log of the edited site; nothing of it where an operation is refused, but why.
     None where the words are no edit."""
@@ -1116,7 +1392,7 @@ def edit_reply(words, data):
             edited(state, local_run, place, piece)
     else:
         edited(state, {"del": local_delete, "undo": local_undo, "redo": local_redo}[word], *values)
-    return log_of(state)
+    return log_reply(state)
 
 
 def run(words, data):
@@ -1129,6 +1405,8 @@ def run(words, data):
             return show_reply(data), 0
         if words == ["playback"]:
             return played_reply(data), 0
+        if words == ["upgrade"]:
+            return upgrade_reply(data), 0
         if len(words) == 2 and words[0] == "explain":
             member = member_in(words[1])
             return (b"cotpad: words\n", 2) if member is None else (explain_reply(member, data), 0)

@@ -10,9 +10,11 @@ TOP = Path(__file__).resolve().parent.parent.parent
 
 # rows with too many operations for plain sets
 TOO_LONG = ("an insert is undone and redone up to the last generation",)
-COMMANDS = (["replay"], ["show"], ["playback"], ["explain"], ["edit"])
-FAULTS = ("badread", "badwrite", "badcall", "peer")
+COMMANDS = (["replay"], ["show"], ["playback"], ["explain"], ["edit"], ["upgrade"], ["serve"], ["join"])
+FAULTS = ("badread", "badwrite", "badcall")
 MOST_ORDERS = 24
+# in bytes: 999,999 and 1,000,000, as a count. Plain sets of so many take seconds, so such frames of version 2 are tried by lines alone.
+HUGE = (b"\x00\x0f\x42\x3f", b"\x00\x0f\x42\x40")
 
 
 def pieces_in(words, known):
@@ -68,8 +70,28 @@ def inputs_of(lines, known):
         yield front + b"".join(order) + behind
 
 
-def row_differs(lines, known, written, status):
-    """Whether the row says something else of what was written, or of the status."""
+def peer_of(lines, known):
+    """What the peer of a row sends, None where there is none."""
+    sent = [pieces_in(rest.split(), known) for word, rest in lines if word == "peer"]
+    return b"".join(sent) if sent else None
+
+
+def is_huge(name, lines, known):
+    data, peer = next(inputs_of(lines, known)), peer_of(lines, known)
+    tried = peer if peer is not None else data if data.startswith(ref.HEADERS[ref.TWO]) else b""
+    return not name.startswith("a state: ") and any(number in tried for number in HUGE)
+
+
+def done(words, data, peer):
+    """What the reference writes of a call, sends to the peer, if there is one, and with which status it ends."""
+    if peer is None:
+        written, status = ref.run(words, data)
+        return written, b"", status
+    return ref.meet(words[0], data, peer)
+
+
+def row_differs(lines, known, written, sent, status):
+    """Whether the row says something else of what was written or sent, or of the status."""
 
     def said(*words):
         return [(word, rest) for word, rest in lines if word in words]
@@ -78,6 +100,7 @@ def row_differs(lines, known, written, status):
     told = written.split(b"\n")
     return (
         (said("out", "outhex", "nothing") and written != wanted)
+        or (said("sent") and sent != b"".join(pieces_in(rest.split(), known) for _, rest in said("sent")))
         or any(rest.encode() not in told for _, rest in said("has"))
         or not written.endswith(b"".join(rest.encode() + b"\n" for _, rest in said("ends")))
         or status != int(said("status")[0][1] if said("status") else 0)
@@ -90,18 +113,19 @@ def try_rows():
         words = words_of(lines)
         if words[:1] not in COMMANDS or any(word in FAULTS for word, _ in lines):
             continue
-        if name in TOO_LONG:
+        if name in TOO_LONG or is_huge(name, lines, known):
             skipped.append(name)
             continue
         for data in inputs_of(lines, known):
-            written, status = ref.run(words, data)
+            written, sent, status = done(words, data, peer_of(lines, known))
             calls += 1
-            if row_differs(lines, known, written, status):
-                wrong.append(f"row {name}: the reference ends with status {status} and writes\n{written[:2000]}")
+            if row_differs(lines, known, written, sent, status):
+                what = f"ends with status {status}, writes\n{written[:2000]}\nand sends {sent.hex()[:2000]}"
+                wrong.append(f"row {name}: the reference {what}")
                 break
         known.update({rest: written for word, rest in lines if word == "keep"})
         tried += 1
-    print("\n".join([f"{tried} rows, {calls} calls, {len(wrong)} rows with another answer; too long for it: {', '.join(skipped)}", *wrong]))
+    print("\n".join([f"{tried} rows, {calls} calls, {len(wrong)} rows with another answer; {len(skipped)} are too long for it", *wrong]))
     return not wrong
 
 
@@ -116,11 +140,12 @@ def try_examples():
     return not wrong
 
 
-def answer_to_frame(data):
+def answer_to_frame(version, data):
     """What is said of a frame in docs/vectors.txt. The bytes of a good one have to come out again."""
     try:
-        op, used = ref.judge(data)
-        return "good" if used == len(data) and ref.frame(op) == data and ref.is_well_formed(op) else "good, BUT it is another frame"
+        op, used = ref.judge(version, data)
+        again = used == len(data) and ref.frame(version, op) == data and ref.is_well_formed(op) and ref.fits(version, op)
+        return "good" if again else "good, BUT it is another frame"
     except ref.More as least:
         return f"more {least}"
     except ref.Bad as why:
@@ -140,7 +165,8 @@ def try_vectors():
     for line in (TOP / "docs" / "vectors.txt").read_text().splitlines():
         if line and not line.startswith("#"):
             kind, digits, wanted = line.split(maxsplit=2)
-            said = (answer_to_frame if kind == "frame" else answer_to_log)(bytes.fromhex(digits))
+            data = bytes.fromhex(digits)
+            said = answer_to_log(data) if kind == "log" else answer_to_frame(ref.TWO if kind == "frame2" else ref.ONE, data)
             tried += 1
             if said != wanted:
                 wrong.append(f"{line}\n  the reference: {said}")
