@@ -1,5 +1,8 @@
 //! Frames and states, byte by byte: operations as bytes and back, and the longest frames.
 
+ghost use Rattle.context_diff.specs.Operations.{IsWellFormed};
+ghost use Rattle.context_diff.specs.Ops.{data_of};
+
 use crate::made::{bytes_of, op_of};
 use context_diff::Op;
 use op_name::Memory;
@@ -108,11 +111,24 @@ fn put(version: Version, op: &Op, out: &mut Vec<u8>) -> Result<(), Memory> {
     if op.fault().is_some() {
         return Ok(());
     }
+    put_well_formed(version, op, out)
+}
+
+/// Appends the frame of the operation, if it has one.
+pub(crate) fn put_well_formed(version: Version, op: &Op, out: &mut Vec<u8>) -> Result<(), Memory>
+    requires { IsWellFormed (data_of op.now) }
+{
     match version {
-        Version::One if fits1(op) => encode(op, out),
-        Version::One => Ok(()),
+        Version::One => put_of_one(op, out),
         Version::Two => encode2(op, out),
     }
+}
+
+/// Appends the frame of version 1, if that names all sites of the operation.
+fn put_of_one(op: &Op, out: &mut Vec<u8>) -> Result<(), Memory>
+    requires { IsWellFormed (data_of op.now) }
+{
+    if fits1(op) { encode(op, out) } else { Ok(()) }
 }
 
 /// Whether the operation is written so.

@@ -1,13 +1,12 @@
 //! Streams of frames that come in pieces.
 
 ghost use Rattle.std.specs.Prelude.{◌≤◌, length};
-ghost use Rattle.context_diff.specs.Operations.{IsWellFormed};
-ghost use Rattle.context_diff.specs.Ops.{data_of};
 
+use crate::frames::put_well_formed;
 use context_diff::Op;
 use op_name::{Member, Memory};
 use std::alloc::Global;
-use wire_codec::{Cause, FrameStream, StreamBad, Version, encode, encode2, fits1};
+use wire_codec::{Cause, FrameStream, StreamBad, Version};
 
 const FIRST: &[u8] =
     b"\x00\x00\x00\x11\x01\x00\x00\x00\x00\x01\x00\x00\x00\x00\x00\x00\x00\x61\x00\x00\x00";
@@ -29,22 +28,11 @@ const THREE_OF_TWO: &[u8] =
     \x00\x00\x00\x29\x04\x03\xff\x00\x00\x00\x01\x00\x00\x00\x00\x00\x02\x00\x00\x00\x70\x00\x00\x00\x71\
     \x00\x01\x00\x00\x00\x00\x00\x02\x00\x01\x00\x00\x00\x00\x00\x01\x00\x02\x00\x01";
 
-/// Appends the frame of the operation, if its sites can be named.
-fn put(version: Version, op: &Op, out: &mut Vec<u8>) -> Result<(), Memory>
-    requires { IsWellFormed (data_of op.now) }
-{
-    match version {
-        Version::One if fits1(op) => encode(op, out),
-        Version::One => Ok(()),
-        Version::Two => encode2(op, out),
-    }
-}
-
 /// Puts the frames of what a stream gives one after the other.
 fn drain(version: Version, stream: &mut FrameStream, out: &mut Vec<u8>) -> Result<(), Memory> {
     for _ in 0..4 {
         match stream.take() {
-            Ok(Some(op)) => put(version, &op, out)?,
+            Ok(Some(op)) => put_well_formed(version, &op, out)?,
             Ok(None) => return Ok(()),
             Err(_) => return Err(Memory),
         }
