@@ -260,8 +260,8 @@ cotpad_status cotpad_operation_text(cotpad_site *site, uint32_t index, uint8_t *
 cotpad_status cotpad_frame(cotpad_site *site, uint32_t index, uint8_t *out, size_t room, size_t *needed);
 
 /* Delivers the operation of the frame that the bytes begin with, tells its verdict, and of it what it is, who made it and what
- * it waits for; and then releases what is ready. Its author is the number that the sixth byte, bytes[5], has: a host that
- * knows who sent the bytes compares the two before this call, since whoever writes under another's number is believed.
+ * it waits for; and then releases what is ready. Its author is the number in its sixth and seventh byte, bytes[5] << 8 | bytes[6]:
+ * a host that knows who sent the bytes compares the two before this call, since whoever writes under another's number is believed.
  * COTPAD_OK is answered to bytes without a frame too: then the verdict is INCOMPLETE or MALFORMED, and the site is as it was.
  * Else COTPAD_UNSETTLED: it is delivered, and its verdict told; or COTPAD_NO_MEMORY, only where there is a frame: *verdict is
  * as it was. */

@@ -51,7 +51,7 @@ static uint8_t *bytes_of(cotpad_site *site, writer *write, size_t *count) {
 
 /* Sends the frames of all that a person's site integrated from this index on to everybody else: the edit of the person, and what
  * it released, which stands behind it; those who have that already answer that it is a repeat. Where a receiver compares the author
- * of a frame with its sender, send only those with frame[5] == from. */
+ * of a frame with its sender, send only those with (frame[5] << 8 | frame[6]) == from. */
 static void send_from(person *people, int from, uint32_t start) {
     static uint8_t frame[COTPAD_FRAME_MAX];
     cotpad_site *site = &people[from].site;
