@@ -24,7 +24,7 @@ def killed(path, seed, seconds):
 
 def name_of(frame):
     """What an insert or a delete is named by: the site and number behind its kind."""
-    return frame[5:10] if frame[4] in (1, 2, 4) else None
+    return frame[5:11] if frame[4] in (1, 2, 4) else None
 
 
 def test_kill_at_any_moment(tmp_path):
