@@ -195,8 +195,8 @@ class Stranger:
         elif kind == 2:
             data = some[:-3]
         elif kind == 3 and frames:
-            data = some[:14] + b"\0\0\0Q" + some[18:4 + int.from_bytes(some[:4], "big")]
-            self.forged.add(f"{data[5]}.{int.from_bytes(data[6:10], 'big')}")
+            data = some[:15] + b"\0\0\0Q" + some[19:4 + int.from_bytes(some[:4], "big")]
+            self.forged.add(f"{int.from_bytes(data[5:7], 'big')}.{int.from_bytes(data[7:11], 'big')}")
         else:
             data = WAITS
         await self._redis.xadd(self._frames, {"site": 63, "frames": data})
