@@ -1,0 +1,4 @@
+pub mod Changes
+pub mod Told
+pub mod Laws
+pub mod Code
