@@ -1,0 +1,52 @@
+-- Where cells are sought, and which places a list has once they are found.
+use Rattle.std.specs.Prelude.{◌≡◌, ◌⊎◌, ◌↔◌, ℕ, ◌<◌, ◌≤◌, List, Contains, Some, min, slice_get}
+use Rattle.op_name.specs.NameData.{NameData}
+use Rattle.context_diff.specs.Operations.{OpData}
+use Rattle.context_diff.specs.Replays.{Cell}
+use Rattle.ttf_form.specs.declared.form.Form.{Form}
+use Rattle.ttf_form.specs.declared.form.Form.TheVariants.{Ins as Insert, Cover as Covered}
+use Rattle.ttf_form.specs.declared.include.TheConstants.{CELLS}
+use Rattle.ttf_form.specs.Forms.{ins_extent}
+use Rattle.ttf_form.specs.Places.{cover_place}
+use Rattle.ttf_form.specs.Cells.{CellData}
+use Rattle.touched_cells.specs.Touched.{IsDeletedBy, IsBearer, name_touched}
+
+-- where the cell at a place stands once a form was executed, as far as places go
+abbrev pub place_after : ℕ → Form → ℕ
+place_after p (Insert a) = min (cover_place p a.place (ins_extent a)) CELLS
+place_after p (Covered c) = p
+
+-- at most one place is such
+abbrev pub AtMostOne : (ℕ → Type 0) → Type 0
+AtMostOne P = (p q : ℕ) → P p → P q → p ≡ q
+
+-- the new list has the old places and those that are such, and no others
+abbrev pub AreWith : (ℕ → Type 0) → List ℕ → List ℕ → Type 0
+AreWith P old new = (p : ℕ) → Contains new p ↔ (Contains old p ⊎ P p)
+
+-- the cell of this name and offset stands at the place
+abbrev pub StandsAt : List Cell → Cell → ℕ → Type 0
+StandsAt ks c p = slice_get ks p ≡ Some c
+
+-- no cell stands at two places
+abbrev pub StandOnce : List Cell → Type 0
+StandOnce ks = (c : Cell) → AtMostOne (StandsAt ks c)
+
+-- one of the first cells of the insert stands at the place, of so many
+abbrev pub IsOneOf : List Cell → NameData → ℕ → ℕ → Type 0
+IsOneOf ks n count p = (j : ℕ) × (j < count) × StandsAt ks (n, j) p
+
+-- at the place stands a cell that the delete of this name hit
+pub record IsDeletedAt (cs : List CellData) (n : NameData) (p : ℕ) : Type 0 where
+  pub cell : CellData
+  pub there : slice_get cs p ≡ Some cell
+  pub deleted : IsDeletedBy cell n
+
+-- the cell at the place bears the name that some operation of the history touches, from one on and before another one
+pub record IsTouchedBetween (h : List OpData) (from to : ℕ) (cs : List CellData) (p : ℕ) : Type 0 where
+  pub index : ℕ
+  pub op : OpData
+  pub late : from ≤ index
+  pub early : index < to
+  pub there : slice_get h index ≡ Some op
+  pub bearer : IsBearer cs (name_touched op) p
