@@ -1,0 +1,8 @@
+pub mod Apart
+pub mod Chunks
+pub mod Marks
+pub mod Members
+pub mod Places
+pub mod Quiet
+pub mod ShownBefore
+pub mod Stretches
