@@ -10,11 +10,14 @@ whenever it is looked at, and a few hundred operations take minutes.
   python3 tools/reference/cotpad_reference.py show < LOG
   python3 tools/reference/cotpad_reference.py playback < LOG
   python3 tools/reference/cotpad_reference.py upgrade < LOG
+  python3 tools/reference/cotpad_reference.py history < LOG
+  python3 tools/reference/cotpad_reference.py digest < LOG
   python3 tools/reference/cotpad_reference.py explain MEMBER < LOG
   python3 tools/reference/cotpad_reference.py edit SITE ins V TEXT < LOG     and so for run, nl, del, undo, redo
 
 write what the program writes, and end with its status. `tools/check-sessions` compares the two on drawn sessions.
 """
+import hashlib
 import os
 import re
 import sys
@@ -1336,7 +1339,74 @@ def explained(history, member):
     return "".join(listing.lines)
 
 
+# ---- Listings and digests
+
+
+def quoted(codes):
+    """log_listings/Quotes.antt, `quoted`: a text between quotes. `quoted_character`: a line feed, a tab, a carriage return, a quote or a
+    backslash is a letter or itself behind a backslash, another control character its number, and each other one is itself"""
+    short = {10: "\\n", 9: "\\t", 13: "\\r", 34: '\\"', 92: "\\\\"}
+    return '"' + "".join(short.get(code) or (f"\\u{{{code:x}}}" if code < 32 or code == 127 else chr(code)) for code in codes) + '"'
+
+
+def is_on(history, op):
+    """log_listings/Listings.antt, `is_on`: whether an operation is in force now: an insert or delete that isn't undone, or was redone; an
+    undo or redo that no later one of the same original took back"""
+    return in_force(history, op.name) if is_original(op) else generation_in(history, op.target) == op.generation
+
+
+def deed_text(history, op):
+    """log_listings/Listings.antt, `deed_text`: what an insert or delete does: its characters, or the cell that it hits; a delete of a
+    valid history hits one. `cell_text`: `S.N+K TEXT`: the cell at offset K of the insert S.N, with its character"""
+    if isinstance(op, Insert):
+        return quoted(op.text)
+    (cell,) = hit_of(op, replay_of(history))
+    insert = operation_in(history, cell.insert.name)
+    return f"{insert.name}+{cell.offset} {quoted(insert.text[cell.offset : cell.offset + 1])}"
+
+
+def kind_word(op):
+    """log_listings/Listings.antt, `kind_word`: the word of an insert or delete"""
+    return "insert" if isinstance(op, Insert) else "delete"
+
+
+def line_text(history, index, op):
+    """log_listings/Listings.antt, `line_text`: the line of the operation at this index of the history"""
+    force = "on" if is_on(history, op) else "off"
+    if is_original(op):
+        return f"{index} {kind_word(op)} {op.name} {force} {deed_text(history, op)}\n"
+    target, word = operation_in(history, op.target), "redo" if is_even(op.generation) else "undo"
+    return f"{index} {word} {member_of(op)} by {op.author} {force} {kind_word(target)} {deed_text(history, target)}\n"
+
+
+def content_of(op):
+    """log_listings/Digests.antt, `content_of`: what a member of the history is: the frame of an original in version 2, or a group.
+    `group_bytes`: a group, whoever made it: spelled as a frame, four bytes of length, which are 8, and then its name and its
+    generation"""
+    return frame(TWO, op) if is_original(op) else number_bytes(4, 8) + name_bytes(TWO, op.target) + number_bytes(2, op.generation)
+
+
+def history_bytes(history):
+    """log_listings/Digests.antt, `history_bytes`: the history as bytes: the contents of its members, in the order of members, and not of
+    their arrival"""
+    return b"".join(content_of(op) for op in sorted(history, key=member_of))
+
+
 # ---- The command
+
+
+def listing_reply(data):
+    """log_listings/Listings.antt, `listing_reply`: a line for each operation of its history, in order, counted from 0"""
+    history = load(0, data).history
+    return "".join(line_text(history, index, op) for index, op in enumerate(history)).encode()
+
+
+def digest_reply(data):
+    """log_listings/Digests.antt, `digest_text`: `operations N`, `history HEX` and `text HEX`, each with a line feed. `hash_text`: the
+    SHA-256 of bytes, in 64 digits"""
+    history = load(0, data).history
+    hashes = (hashlib.sha256(it).hexdigest() for it in (history_bytes(history), text_of(history).encode()))
+    return "operations {}\nhistory {}\ntext {}\n".format(len(history), *hashes).encode()
 
 
 def show_reply(data):
@@ -1407,6 +1477,10 @@ def run(words, data):
             return played_reply(data), 0
         if words == ["upgrade"]:
             return upgrade_reply(data), 0
+        if words == ["history"]:
+            return listing_reply(data), 0
+        if words == ["digest"]:
+            return digest_reply(data), 0
         if len(words) == 2 and words[0] == "explain":
             member = member_in(words[1])
             return (b"cotpad: words\n", 2) if member is None else (explain_reply(member, data), 0)

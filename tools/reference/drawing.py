@@ -422,7 +422,7 @@ class Drawing:
         draw, state = self.draw, self.state()
         pieces = self.log_pieces(state)
         if self.chance(0.4):
-            return [draw.choice(("show", "playback", "upgrade"))], pieces
+            return [draw.choice(("show", "playback", "upgrade", "history", "digest"))], pieces
         if self.chance(0.3):
             return ["explain", str(self.member(state.history))], pieces
         most = len(ref.shown_places_of(state.history))

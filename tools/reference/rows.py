@@ -10,7 +10,7 @@ TOP = Path(__file__).resolve().parent.parent.parent
 
 # rows with too many operations for plain sets
 TOO_LONG = ("an insert is undone and redone up to the last generation",)
-COMMANDS = (["replay"], ["show"], ["playback"], ["explain"], ["edit"], ["upgrade"], ["serve"], ["join"])
+COMMANDS = (["replay"], ["show"], ["playback"], ["explain"], ["edit"], ["upgrade"], ["history"], ["digest"], ["serve"], ["join"])
 FAULTS = ("badread", "badwrite", "badcall")
 MOST_ORDERS = 24
 # in bytes: 999,999 and 1,000,000, as a count. Plain sets of so many take seconds, so such frames of version 2 are tried by lines alone.

@@ -212,6 +212,20 @@ WRONG = (
         '        raise Refused(f"no {why}") from None\n    releases(state)',
         '        raise Refused(f"no {why}") from None',
     ),
+    # listings and digests
+    (
+        "a redone insert is told as off",
+        "return in_force(history, op.name) if is_original(op) else gen",
+        "return generation_in(history, op.name) == 0 if is_original(op) else gen",
+    ),
+    (
+        "an undo that was taken back is told as on",
+        "generation_in(history, op.target) == op.generation",
+        "generation_in(history, op.target) >= op.generation",
+    ),
+    ("a delete tells the first character of its insert", "insert.text[cell.offset : cell.offset + 1]", "insert.text[:1]"),
+    ("a digest goes by the order of arrival", "for op in sorted(history, key=member_of))", "for op in history)"),
+    ("the author of an undo is hashed", "number_bytes(4, 8) + name", "number_bytes(4, 8) + number_bytes(2, op.author) + name"),
     # exchanges
     ("all is sent, whatever the peer has", "for op in history if member_of(op) not in state)", "for op in history)"),
     ("messages have the head of version 1", 'HEAD, END_MARK = b"COTVEC2', 'HEAD, END_MARK = b"COTVEC1'),

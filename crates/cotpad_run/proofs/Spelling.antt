@@ -13,7 +13,7 @@ use Rattle.session_replay.specs.declared.generator.TheConstants.{MAX_EVENTS, MAX
 use Rattle.log_replies.specs.Editing.{EditData, Ins, Run, Nl, Del, Undo, Redo}
 use Rattle.cotpad_run.specs.declared.command.Command.{Command}
 use Rattle.cotpad_run.specs.declared.command.TheConstants.{MAX_PORT}
-use Rattle.cotpad_run.specs.Commands.{CommandData, Replay, Show, Edit, Upgrade, Gen, Explain, Where, Find, At, Playback, Serve, Join, Loop, Help, DashedHelp, command_data}
+use Rattle.cotpad_run.specs.Commands.{CommandData, Replay, Show, Edit, Upgrade, History, Digest, Gen, Explain, Where, Find, At, Playback, Serve, Join, Loop, Help, DashedHelp, Version, DashedVersion, command_data}
 use Rattle.cotpad_run.specs.Words.{edit_words, command_words, IsEditInRange, IsPort, IsInRange, Spells}
 use Rattle.cotpad_run.specs.Code.Reading.{first_in, one_in, alone_in, text_in, placed_in, nl_in, del_in, undo_in, redo_in, edit_row, edit_in, gen_in, gen_of, explain_in, where_in, find_in, at_in, port_of, port_in, loop_in, command_row, command_in}
 
@@ -165,6 +165,18 @@ unfolding IsCommand
 upgrade_from parts c h =
     let a = alone_some Upgrade c parts h in
     subst (λ x. (codes "upgrade" ∷ parts ≡ command_words x) × IsInRange x) a.1 (ap (λ xs. codes "upgrade" ∷ xs) a.0, tt)
+
+history_from : (parts : List (List ℕ)) (c : CommandData) → alone_in History parts ≡ Some c → IsCommand (codes "history" ∷ parts) c
+unfolding IsCommand
+history_from parts c h =
+    let a = alone_some History c parts h in
+    subst (λ x. (codes "history" ∷ parts ≡ command_words x) × IsInRange x) a.1 (ap (λ xs. codes "history" ∷ xs) a.0, tt)
+
+digest_from : (parts : List (List ℕ)) (c : CommandData) → alone_in Digest parts ≡ Some c → IsCommand (codes "digest" ∷ parts) c
+unfolding IsCommand
+digest_from parts c h =
+    let a = alone_some Digest c parts h in
+    subst (λ x. (codes "digest" ∷ parts ≡ command_words x) × IsInRange x) a.1 (ap (λ xs. codes "digest" ∷ xs) a.0, tt)
 
 gen_of_some : (start events window : ℕ) (c : CommandData) → gen_of start events window ≡ Some c
     → (events ≤ MAX_EVENTS) × (1 ≤ window) × (window ≤ MAX_WINDOW) × (Gen start events window ≡ c)
@@ -343,6 +355,18 @@ dashed_help_from parts c h =
     let a = alone_some DashedHelp c parts h in
     subst (λ x. (codes "--help" ∷ parts ≡ command_words x) × IsInRange x) a.1 (ap (λ xs. codes "--help" ∷ xs) a.0, tt)
 
+version_from : (parts : List (List ℕ)) (c : CommandData) → alone_in Version parts ≡ Some c → IsCommand (codes "version" ∷ parts) c
+unfolding IsCommand
+version_from parts c h =
+    let a = alone_some Version c parts h in
+    subst (λ x. (codes "version" ∷ parts ≡ command_words x) × IsInRange x) a.1 (ap (λ xs. codes "version" ∷ xs) a.0, tt)
+
+dashed_version_from : (parts : List (List ℕ)) (c : CommandData) → alone_in DashedVersion parts ≡ Some c → IsCommand (codes "--version" ∷ parts) c
+unfolding IsCommand
+dashed_version_from parts c h =
+    let a = alone_some DashedVersion c parts h in
+    subst (λ x. (codes "--version" ∷ parts ≡ command_words x) × IsInRange x) a.1 (ap (λ xs. codes "--version" ∷ xs) a.0, tt)
+
 command_from : (ws : List (List ℕ)) (c : CommandData) → command_in ws ≡ Some c → IsCommand ws c
 unfolding command_in command_row
 command_from ws c h =
@@ -353,6 +377,8 @@ command_from ws c h =
     (row_or IsCommand p.0.0 (codes "show") parts c (alone_in Show parts) _ (show_from parts c)
     (row_or IsCommand p.0.0 (codes "edit") parts c (edit_in parts) _ (editing_from parts c)
     (row_or IsCommand p.0.0 (codes "upgrade") parts c (alone_in Upgrade parts) _ (upgrade_from parts c)
+    (row_or IsCommand p.0.0 (codes "history") parts c (alone_in History parts) _ (history_from parts c)
+    (row_or IsCommand p.0.0 (codes "digest") parts c (alone_in Digest parts) _ (digest_from parts c)
     (row_or IsCommand p.0.0 (codes "gen") parts c (gen_in parts) _ (gen_from parts c)
     (row_or IsCommand p.0.0 (codes "explain") parts c (explain_in parts) _ (explain_from parts c)
     (row_or IsCommand p.0.0 (codes "where") parts c (where_in parts) _ (where_from parts c)
@@ -363,7 +389,9 @@ command_from ws c h =
     (row_or IsCommand p.0.0 (codes "join") parts c (option_map Join (port_in parts)) _ (join_from parts c)
     (row_or IsCommand p.0.0 (codes "loop") parts c (loop_in parts) _ (loop_from parts c)
     (row_or IsCommand p.0.0 (codes "help") parts c (alone_in Help parts) _ (help_from parts c)
-    (row_or IsCommand p.0.0 (codes "--help") parts c (alone_in DashedHelp parts) None (dashed_help_from parts c) (λ never. cc)))))))))))))))
+    (row_or IsCommand p.0.0 (codes "--help") parts c (alone_in DashedHelp parts) _ (dashed_help_from parts c)
+    (row_or IsCommand p.0.0 (codes "version") parts c (alone_in Version parts) _ (version_from parts c)
+    (row_or IsCommand p.0.0 (codes "--version") parts c (alone_in DashedVersion parts) None (dashed_version_from parts c) (λ never. cc)))))))))))))))))))
     p.2)
 
 command_to : (c : CommandData) → IsInRange c → command_in (command_words c) ≡ Some c
@@ -373,6 +401,10 @@ command_to Show r = refl
 command_to Upgrade r = refl
 command_to Help r = refl
 command_to DashedHelp r = refl
+command_to History r = refl
+command_to Digest r = refl
+command_to Version r = refl
+command_to DashedVersion r = refl
 command_to (Gen start events window) r =
     rw (
       long_reads.to (decimal start) start (refl, r.0),

@@ -1,4 +1,4 @@
--- What `help` writes.
+-- What `help` and `version` write.
 use Rattle.std.specs.Prelude.{ℕ, List, ◌++◌, codes}
 
 -- a line for each command, in the order in which people meet them
@@ -13,6 +13,8 @@ help_text =
     ++ (codes "cotpad edit SITE undo NAME         reads a log, undoes an insert or delete, whoever made it, and writes the new log\n"
     ++ (codes "cotpad edit SITE redo NAME         the same with a redo, whoever undid it\n"
     ++ (codes "cotpad upgrade                     reads a log of version 1 or 2, and writes it in version 2\n"
+    ++ (codes "cotpad history                     reads a log, and writes a line for each operation: its name, what it did, if it is in force\n"
+    ++ (codes "cotpad digest                      reads a log, and writes hashes of its operations and its text, to compare copies by\n"
     ++ (codes "cotpad explain MEMBER              reads a log, and writes how the form of an operation is derived\n"
     ++ (codes "cotpad where V                     reads a log, and writes the line and column after V shown characters\n"
     ++ (codes "cotpad find L C                    reads a log, and writes after how many shown characters line L column C is\n"
@@ -22,4 +24,9 @@ help_text =
     ++ (codes "cotpad join PORT                   reads a log, exchanges with who waits at the port, and writes the new log\n"
     ++ (codes "cotpad loop START                  lets two sites exchange over a connection, and writes what went\n"
     ++ (codes "cotpad gen START EVENTS WINDOW     generates a session of four sites, and writes what it did\n"
-    ++ (codes "cotpad help                        writes these lines\n"))))))))))))))))))
+    ++ (codes "cotpad help                        writes these lines\n"
+    ++ (codes "cotpad version                     writes which version of the program this is\n")))))))))))))))))))))
+
+-- the version of the program, which is that of the library for hosts, and the line of the toolchain that it is proved with
+abbrev pub version_text : List ℕ
+version_text = codes "cotpad 4, proved with rattle-kit-13f\n"

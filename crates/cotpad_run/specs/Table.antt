@@ -16,9 +16,11 @@ use Rattle.log_replies.specs.PastTexts.{IsShownAt}
 use Rattle.log_replies.specs.PlayedTexts.{IsPlayedBack}
 use Rattle.log_replies.specs.Replies.{IsShown, IsEdited, IsUpgraded}
 use Rattle.log_replies.specs.Statuses.{IsReported}
-use Rattle.cotpad_run.specs.Commands.{CommandData, Replay, Show, Edit, Upgrade, Gen, Explain, Where, Find, At, Playback, Serve, Join, Loop, Help, DashedHelp}
+use Rattle.log_listings.specs.Listings.{IsListed}
+use Rattle.log_listings.specs.Digests.{IsDigested}
+use Rattle.cotpad_run.specs.Commands.{CommandData, Replay, Show, Edit, Upgrade, History, Digest, Gen, Explain, Where, Find, At, Playback, Serve, Join, Loop, Help, DashedHelp, Version, DashedVersion}
 use Rattle.cotpad_run.specs.Generating.{IsGenerated}
-use Rattle.cotpad_run.specs.Help.{help_text}
+use Rattle.cotpad_run.specs.Help.{help_text, version_text}
 use Rattle.cotpad_run.specs.Looping.{IsLoopAnswered}
 use Rattle.cotpad_run.specs.Made.{IsSaid}
 use Rattle.cotpad_run.specs.Meeting.{Side, serving, joining, IsMeeting, AgreesWithPeer}
@@ -96,6 +98,8 @@ row_of Replay =
 row_of Show = replying IsShown
 row_of (Edit site edit) = replying (IsEdited site edit)
 row_of Upgrade = replying IsUpgraded
+row_of History = replying IsListed
+row_of Digest = replying IsDigested
 row_of (Explain m) = replying (IsExplained m)
 row_of (Where place) = replying (IsLocated place)
 row_of (Find line column) = replying (IsFound line column)
@@ -119,6 +123,8 @@ row_of (Loop start) = record {
 }
 row_of Help = saying help_text
 row_of DashedHelp = saying help_text
+row_of Version = saying version_text
+row_of DashedVersion = saying version_text
 
 abbrev pub Reads : CommandData → Type 0
 Reads command = (row_of command).reads ≡ true

@@ -12,7 +12,7 @@ use Rattle.log_replies.specs.Outside.{Outside, IsWritten, IsCutOff}
 use Rattle.log_replies.specs.declared.status.Status.{Status}
 use Rattle.log_replies.specs.declared.status.Status.TheVariants.{Done, Refused, Words, ReadFault, WriteFault, Memory, LinkFault, PeerRefused}
 use Rattle.cotpad_run.specs.declared.command.TheConstants.{MAX_PORT}
-use Rattle.cotpad_run.specs.Commands.{CommandData, Replay, Show, Edit, Upgrade, Gen, Explain, Where, Find, At, Playback, Serve, Join, Loop, Help, DashedHelp}
+use Rattle.cotpad_run.specs.Commands.{CommandData, Replay, Show, Edit, Upgrade, History, Digest, Gen, Explain, Where, Find, At, Playback, Serve, Join, Loop, Help, DashedHelp, Version, DashedVersion}
 
 -- the words of an edit, after its site: a row for each. A text is one word
 abbrev pub edit_words : EditData → List (List ℕ)
@@ -29,6 +29,8 @@ command_words Replay = codes "replay" ∷ []
 command_words Show = codes "show" ∷ []
 command_words (Edit site edit) = codes "edit" ∷ decimal site ∷ edit_words edit
 command_words Upgrade = codes "upgrade" ∷ []
+command_words History = codes "history" ∷ []
+command_words Digest = codes "digest" ∷ []
 command_words (Gen start events window) = codes "gen" ∷ decimal start ∷ decimal events ∷ decimal window ∷ []
 command_words (Explain m) = codes "explain" ∷ member_text m ∷ []
 command_words (Where place) = codes "where" ∷ decimal place ∷ []
@@ -40,6 +42,8 @@ command_words (Join port) = codes "join" ∷ decimal port ∷ []
 command_words (Loop start) = codes "loop" ∷ decimal start ∷ []
 command_words Help = codes "help" ∷ []
 command_words DashedHelp = codes "--help" ∷ []
+command_words Version = codes "version" ∷ []
+command_words DashedVersion = codes "--version" ∷ []
 
 -- the parts of an edit are in range; a text isn't empty
 abbrev pub IsEditInRange : EditData → Type 0
@@ -60,6 +64,8 @@ IsInRange Replay = Unit {0}
 IsInRange Show = Unit {0}
 IsInRange (Edit site edit) = (site < SITES) × IsEditInRange edit
 IsInRange Upgrade = Unit {0}
+IsInRange History = Unit {0}
+IsInRange Digest = Unit {0}
 IsInRange (Gen start events window) = (start < 2 ^ 64) × (events ≤ MAX_EVENTS) × (1 ≤ window) × (window ≤ MAX_WINDOW)
 IsInRange (Explain m) = IsMemberInRange m
 IsInRange (Where place) = place < 2 ^ 32
@@ -71,6 +77,8 @@ IsInRange (Join port) = IsPort port
 IsInRange (Loop start) = start < 2 ^ 64
 IsInRange Help = Unit {0}
 IsInRange DashedHelp = Unit {0}
+IsInRange Version = Unit {0}
+IsInRange DashedVersion = Unit {0}
 
 -- the words spell the command, in the one way in which it is spelled
 abbrev pub Spells : {A : Type 0} → List (String A) → CommandData → Type 0

@@ -30,6 +30,10 @@ pub enum Command<'a> {
     },
     /// `upgrade`: reads a log of either version, and writes it in version 2.
     Upgrade,
+    /// `history`: reads a log, and writes a line for each operation.
+    History,
+    /// `digest`: reads a log, and writes hashes of its operations and its text.
+    Digest,
     /// `gen START EVENTS WINDOW`: generates a session of four sites, and writes what it did and shows.
     Gen {
         start: u64,
@@ -73,6 +77,10 @@ pub enum Command<'a> {
     Help,
     /// `--help`: the same.
     DashedHelp,
+    /// `version`: tells the version of the program.
+    Version,
+    /// `--version`: the same.
+    DashedVersion,
 }
 
 /// The command that these words spell, which are those after the program's name. None exactly where they spell
@@ -97,6 +105,8 @@ fn command_row<'a>(word: &str, parts: &'a [String]) -> Option<Command<'a>>
         "show" => show_of(parts),
         "edit" => edit_of(parts),
         "upgrade" => upgrade_of(parts),
+        "history" => history_of(parts),
+        "digest" => digest_of(parts),
         "gen" => gen_of(parts),
         "explain" => explain_of(parts),
         "where" => where_of(parts),
@@ -108,6 +118,8 @@ fn command_row<'a>(word: &str, parts: &'a [String]) -> Option<Command<'a>>
         "loop" => loop_of(parts),
         "help" => help_of(parts),
         "--help" => dashed_help_of(parts),
+        "version" => version_of(parts),
+        "--version" => dashed_version_of(parts),
         _ => None,
     }
 }
@@ -228,6 +240,26 @@ fn upgrade_of(parts: &[String]) -> Option<Command<'_>>
 {
     if parts.is_empty() {
         Some(Command::Upgrade)
+    } else {
+        None
+    }
+}
+
+fn history_of(parts: &[String]) -> Option<Command<'_>>
+    ensures { option_map command_data result ≡ alone_in asked.History (map string_bytes parts.now) }
+{
+    if parts.is_empty() {
+        Some(Command::History)
+    } else {
+        None
+    }
+}
+
+fn digest_of(parts: &[String]) -> Option<Command<'_>>
+    ensures { option_map command_data result ≡ alone_in asked.Digest (map string_bytes parts.now) }
+{
+    if parts.is_empty() {
+        Some(Command::Digest)
     } else {
         None
     }
@@ -355,6 +387,26 @@ fn dashed_help_of(parts: &[String]) -> Option<Command<'_>>
 {
     if parts.is_empty() {
         Some(Command::DashedHelp)
+    } else {
+        None
+    }
+}
+
+fn version_of(parts: &[String]) -> Option<Command<'_>>
+    ensures { option_map command_data result ≡ alone_in asked.Version (map string_bytes parts.now) }
+{
+    if parts.is_empty() {
+        Some(Command::Version)
+    } else {
+        None
+    }
+}
+
+fn dashed_version_of(parts: &[String]) -> Option<Command<'_>>
+    ensures { option_map command_data result ≡ alone_in asked.DashedVersion (map string_bytes parts.now) }
+{
+    if parts.is_empty() {
+        Some(Command::DashedVersion)
     } else {
         None
     }

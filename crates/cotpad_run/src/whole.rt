@@ -19,6 +19,8 @@ use crate::laws::{limits_have_numbers, same_operations};
 use crate::looped::answer_looped;
 use crate::meeting::{Joining, Serving, answer_met};
 use crate::replay::answer_replay;
+use crate::version::answer_version;
+use log_listings::{Digesting, Listing};
 use log_replies::{
     Editing, Explaining, Finding, Locating, Show, ShowingPast, Status, Upgrading, answer,
     answer_played, one_explanation, one_past, one_reply,
@@ -30,6 +32,7 @@ use std::alloc::Global;
 /// line before it reads on. `show` reads a log, and writes its text. `edit SITE ins V TEXT`, `edit SITE run V TEXT`, `edit SITE nl V`,
 /// `edit SITE del V`, `edit SITE undo NAME` and `edit SITE redo NAME` read a log, edit it as this site, and write the log of the result.
 /// `upgrade` reads a log of version 1 or 2, and writes it in version 2. Neither writes a log that is too long to be read again.
+/// `history` reads a log, and writes a line for each of its operations; `digest` reads one, and writes hashes of them and of its text.
 /// `gen START EVENTS WINDOW` reads nothing, generates a session of four sites, and writes what it did and what site 0 shows.
 /// `explain MEMBER` reads a log, and writes the steps that derive the form in which the operation of this member was executed.
 /// `where V` reads a log, and writes the line and the column of the place after so many shown characters; `find L C` reads one,
@@ -38,7 +41,8 @@ use std::alloc::Global;
 /// `playback` reads a log, and writes its text after each operation, one after the other.
 /// `serve PORT` and `join PORT` read a log, exchange with a peer that comes to this port, or that waits there, and write the
 /// log with what the peer had. `loop START` reads nothing, generates a session of two sites, which exchange twice over the
-/// pair of the wire, and writes what went. `help` and `--help` read nothing, and list the commands.
+/// pair of the wire, and writes what went. `help` and `--help` read nothing, and list the commands;
+/// `version` and `--version` read nothing, and tell the version.
 /// Any other words write `cotpad: words`, and nothing is read.
 pub fn run<S: Source, K: Sink, W: Wire>(
     alloc: Global,
@@ -62,7 +66,8 @@ pub fn run<S: Source, K: Sink, W: Wire>(
 
     // Histories of the same operations, in whatever order they came, show the same text.
     ensures same { (h k : List OpData) → IsValid h → IsValid k → Same h k → text_of h ≡ text_of k }
-    // The bytes of a log decide what `show`, `edit`, `upgrade`, `where`, `find` and `playback` reply, and what `explain` and `at` do.
+    // The bytes of a log decide what `show`, `edit`, `upgrade`, `history`, `digest`, `where`, `find` and `playback` reply, and what
+    // `explain` and `at` do.
     ensures one_reply { OneReply }
     ensures one_explanation { OneExplanation }
     ensures one_past { OnePast }
@@ -86,6 +91,8 @@ pub fn run<S: Source, K: Sink, W: Wire>(
         Some(Command::Show) => answer(alloc, &Show, source, sink),
         Some(Command::Edit { site, edit }) => answer(alloc, &Editing { site, edit }, source, sink),
         Some(Command::Upgrade) => answer(alloc, &Upgrading, source, sink),
+        Some(Command::History) => answer(alloc, &Listing, source, sink),
+        Some(Command::Digest) => answer(alloc, &Digesting, source, sink),
         Some(Command::Explain { member }) => answer(alloc, &Explaining { member }, source, sink),
         Some(Command::Where { place }) => answer(alloc, &Locating { place }, source, sink),
         Some(Command::Find { line, column }) => answer(
@@ -113,6 +120,8 @@ pub fn run<S: Source, K: Sink, W: Wire>(
         Some(Command::Loop { start }) => answer_looped(alloc, start, sink, wire),
         Some(Command::Help) => answer_help(sink),
         Some(Command::DashedHelp) => answer_help(sink),
+        Some(Command::Version) => answer_version(sink),
+        Some(Command::DashedVersion) => answer_version(sink),
         None => refuse_words(sink),
     }
 }

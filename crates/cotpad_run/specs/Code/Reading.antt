@@ -5,7 +5,7 @@ use Rattle.script_text.specs.Fields.{number_of, long_of, site_of, name_of, membe
 use Rattle.script_text.specs.Sets.{set_of}
 use Rattle.log_replies.specs.Editing.{EditData, Ins, Run, Nl, Del, Undo, Redo}
 use Rattle.cotpad_run.specs.declared.command.TheConstants.{MAX_PORT}
-use Rattle.cotpad_run.specs.Commands.{CommandData, Replay, Show, Edit, Upgrade, Gen, Explain, Where, Find, At, Playback, Serve, Join, Loop, Help, DashedHelp}
+use Rattle.cotpad_run.specs.Commands.{CommandData, Replay, Show, Edit, Upgrade, History, Digest, Gen, Explain, Where, Find, At, Playback, Serve, Join, Loop, Help, DashedHelp, Version, DashedVersion}
 
 -- the first word and the others, if there is one
 abbrev pub first_in : List (List ℕ) → Option (List ℕ × List (List ℕ))
@@ -144,6 +144,8 @@ command_row word parts =
     else (if bytes_eq word (codes "show") then alone_in Show parts
     else (if bytes_eq word (codes "edit") then edit_in parts
     else (if bytes_eq word (codes "upgrade") then alone_in Upgrade parts
+    else (if bytes_eq word (codes "history") then alone_in History parts
+    else (if bytes_eq word (codes "digest") then alone_in Digest parts
     else (if bytes_eq word (codes "gen") then gen_in parts
     else (if bytes_eq word (codes "explain") then explain_in parts
     else (if bytes_eq word (codes "where") then where_in parts
@@ -155,7 +157,9 @@ command_row word parts =
     else (if bytes_eq word (codes "loop") then loop_in parts
     else (if bytes_eq word (codes "help") then alone_in Help parts
     else (if bytes_eq word (codes "--help") then alone_in DashedHelp parts
-    else None))))))))))))))
+    else (if bytes_eq word (codes "version") then alone_in Version parts
+    else (if bytes_eq word (codes "--version") then alone_in DashedVersion parts
+    else None))))))))))))))))))
 
 -- the command that these words spell, if they spell one
 unfoldable pub command_in : List (List ℕ) → Option CommandData

@@ -1,6 +1,6 @@
 use Rattle.std.proofs.Common.{◌≡◌, refl}
 use Rattle.cotpad_run.specs.Commands.{command_data}
-use Rattle.cotpad_run.specs.Help.{help_text}
+use Rattle.cotpad_run.specs.Help.{help_text, version_text}
 use Rattle.cotpad_run.specs.Meeting.{serving, joining}
 use Rattle.cotpad_run.specs.Table.{Reads, Links, Streams}
 use Rattle.cotpad_run.specs.declared.command.Command.TheVariants as command
@@ -85,6 +85,42 @@ returns-in-Some-Upgrade-clause-unread g c = λ none.
     let f = k.field-0-is in
     let is : k.field-0 ≡ command.Upgrade = cc in
     absurd (not_of Reads k.field-0 (command.Upgrade) is (none (command_data k.field-0) k.ensures.found) refl)
+
+pub returns-in-Some-History-clause-run : goal.returns-in-Some-History-clause-run
+returns-in-Some-History-clause-run g c =
+    let k = c.in-Some-History in
+    let f = k.field-0-is in
+    let is : k.field-0 ≡ command.History = cc in
+    record {
+      done = λ asked spelled. same_row k.field-0 (command.History) asked _ _ _ is (k.ensures.only asked spelled)
+          (replying_done _ _ _ _ c.answer-in-Some-History.ensures.answer refl);
+      wrong = λ none. absurd (none (command_data k.field-0) k.ensures.found);
+    }
+
+pub returns-in-Some-History-clause-unread : goal.returns-in-Some-History-clause-unread
+returns-in-Some-History-clause-unread g c = λ none.
+    let k = c.in-Some-History in
+    let f = k.field-0-is in
+    let is : k.field-0 ≡ command.History = cc in
+    absurd (not_of Reads k.field-0 (command.History) is (none (command_data k.field-0) k.ensures.found) refl)
+
+pub returns-in-Some-Digest-clause-run : goal.returns-in-Some-Digest-clause-run
+returns-in-Some-Digest-clause-run g c =
+    let k = c.in-Some-Digest in
+    let f = k.field-0-is in
+    let is : k.field-0 ≡ command.Digest = cc in
+    record {
+      done = λ asked spelled. same_row k.field-0 (command.Digest) asked _ _ _ is (k.ensures.only asked spelled)
+          (replying_done _ _ _ _ c.answer-in-Some-Digest.ensures.answer refl);
+      wrong = λ none. absurd (none (command_data k.field-0) k.ensures.found);
+    }
+
+pub returns-in-Some-Digest-clause-unread : goal.returns-in-Some-Digest-clause-unread
+returns-in-Some-Digest-clause-unread g c = λ none.
+    let k = c.in-Some-Digest in
+    let f = k.field-0-is in
+    let is : k.field-0 ≡ command.Digest = cc in
+    absurd (not_of Reads k.field-0 (command.Digest) is (none (command_data k.field-0) k.ensures.found) refl)
 
 pub returns-in-Some-Explain-clause-run : goal.returns-in-Some-Explain-clause-run
 returns-in-Some-Explain-clause-run g c =
@@ -286,6 +322,30 @@ returns-in-Some-DashedHelp-clause-run g c =
     record {
       done = λ asked spelled. same_row k.field-0 command.DashedHelp asked _ _ _ is (k.ensures.only asked spelled)
           (saying_done help_text _ _ _ (c.answer_help-in-Some-DashedHelp.ensures.answer (g.S.Source.left c.args.source.now)
+          (g.S.Source.faults c.args.source.now)) refl refl);
+      wrong = λ none. absurd (none (command_data k.field-0) k.ensures.found);
+    }
+
+pub returns-in-Some-Version-clause-run : goal.returns-in-Some-Version-clause-run
+returns-in-Some-Version-clause-run g c =
+    let k = c.in-Some-Version in
+    let f = k.field-0-is in
+    let is : k.field-0 ≡ command.Version = cc in
+    record {
+      done = λ asked spelled. same_row k.field-0 command.Version asked _ _ _ is (k.ensures.only asked spelled)
+          (saying_done version_text _ _ _ (c.answer_version.ensures.answer (g.S.Source.left c.args.source.now)
+          (g.S.Source.faults c.args.source.now)) refl refl);
+      wrong = λ none. absurd (none (command_data k.field-0) k.ensures.found);
+    }
+
+pub returns-in-Some-DashedVersion-clause-run : goal.returns-in-Some-DashedVersion-clause-run
+returns-in-Some-DashedVersion-clause-run g c =
+    let k = c.in-Some-DashedVersion in
+    let f = k.field-0-is in
+    let is : k.field-0 ≡ command.DashedVersion = cc in
+    record {
+      done = λ asked spelled. same_row k.field-0 command.DashedVersion asked _ _ _ is (k.ensures.only asked spelled)
+          (saying_done version_text _ _ _ (c.answer_version-in-Some-DashedVersion.ensures.answer (g.S.Source.left c.args.source.now)
           (g.S.Source.faults c.args.source.now)) refl refl);
       wrong = λ none. absurd (none (command_data k.field-0) k.ensures.found);
     }

@@ -1,7 +1,7 @@
 use Rattle.std.proofs.Common.{refl, subst}
 use Rattle.std.specs.Io.KnownBytes.{Appends}
 use Rattle.outside_io.specs.Writing.{WritesFront}
-use Rattle.cotpad_run.proofs.help.answer_help.Goals as goal
+use Rattle.cotpad_run.proofs.saying.say.Goals as goal
 
 pub returns-in-Ok-clause-answer : goal.returns-in-Ok-clause-answer
 returns-in-Ok-clause-answer g c = λ left faults. record {

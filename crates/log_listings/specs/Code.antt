@@ -1,0 +1,3 @@
+-- Words that only contracts of private functions use.
+pub mod Hits
+pub mod Hashing
