@@ -62,21 +62,21 @@ define one-object
 	tools/check-header $@
 endef
 
-lib: lib/libcotpad.a lib/libcotpad.so.3 lib/cotpad.pc
-	@echo "lib/libcotpad.a, libcotpad.so.3 and cotpad.pc: proved and built $(call over,cotpad_c)"
+lib: lib/libcotpad.a lib/libcotpad.so.4 lib/cotpad.pc
+	@echo "lib/libcotpad.a, libcotpad.so.4 and cotpad.pc: proved and built $(call over,cotpad_c)"
 
 lib/libcotpad.a: $(call files,cotpad_c) $(call made,$(call below,cotpad_c)) include/cotpad.h tools/check-header
 	@mkdir -p lib
 	cd crates/cotpad_c && rt lib
 	$(call one-object,crates/cotpad_c/out/libcotpad_c.a)
 
-%/libcotpad.so.3: %/libcotpad.a
-	$(CC) -shared -o $@ -Wl,-soname,libcotpad.so.3 -Wl,-z,defs -Wl,--whole-archive $< -Wl,--no-whole-archive
-	ln -sf libcotpad.so.3 $*/libcotpad.so
+%/libcotpad.so.4: %/libcotpad.a
+	$(CC) -shared -o $@ -Wl,-soname,libcotpad.so.4 -Wl,-z,defs -Wl,--whole-archive $< -Wl,--no-whole-archive
+	ln -sf libcotpad.so.4 $*/libcotpad.so
 
 # What pkg-config reads, for a header in the folder $(1)/include and a library in the folder $(2).
 pkg-config-file = printf '%s\n' 'prefix=$(1)' 'includedir=$${prefix}/include' 'libdir=$(2)' 'Name: cotpad' \
-	'Description: the core of a group text editor' 'Version: 3' 'Cflags: -I$${includedir}' 'Libs: -L$${libdir} -lcotpad'
+	'Description: the core of a group text editor' 'Version: 4' 'Cflags: -I$${includedir}' 'Libs: -L$${libdir} -lcotpad'
 
 %/cotpad.pc: Makefile
 	@mkdir -p $*
@@ -86,8 +86,8 @@ pkg-config-file = printf '%s\n' 'prefix=$(1)' 'includedir=$${prefix}/include' 'l
 quick: quick/cotpad
 	@echo "quick/cotpad: built in $(since); nothing is proved of it (\`make\` proves the program)"
 
-quick-lib: quick/libcotpad.a quick/libcotpad.so.3 quick/cotpad.pc
-	@echo "quick/libcotpad.a, libcotpad.so.3 and cotpad.pc: built in $(since); nothing is proved of them (\`make lib\` proves them)"
+quick-lib: quick/libcotpad.a quick/libcotpad.so.4 quick/cotpad.pc
+	@echo "quick/libcotpad.a, libcotpad.so.4 and cotpad.pc: built in $(since); nothing is proved of them (\`make lib\` proves them)"
 
 quick/cotpad: $(foreach it,cotpad $(call below,cotpad),$(call files,$(it))) tools/quick
 	@tools/quick cotpad $@
@@ -100,13 +100,13 @@ quick/libcotpad.a: $(foreach it,cotpad_c $(call below,cotpad_c),$(call files,$(i
 needs-library = @test -f "$(LIB)/libcotpad.a" || \
 	{ echo "there is no library for hosts: call \`make quick-lib\` or \`make lib\` first" >&2; false; }
 # The package for Python as it stands here, over that library.
-PACKAGE = COTPAD_LIB=$(abspath $(LIB))/libcotpad.so.3 PYTHONPATH=$(CURDIR)/python/src PYTHONDONTWRITEBYTECODE=1
+PACKAGE = COTPAD_LIB=$(abspath $(LIB))/libcotpad.so.4 PYTHONPATH=$(CURDIR)/python/src PYTHONDONTWRITEBYTECODE=1
 HOST_FLAGS := -std=c99 -Wall -Wextra -Wpedantic -O2 -Iinclude
 # The folder of the library that hosts are linked with.
 LIB ?= $(patsubst %/libcotpad.a,%,$(firstword $(wildcard lib/libcotpad.a quick/libcotpad.a)))
 
-# Three people and a cursor in C and in Python, and a host that stores before it sends, compared with what they have to write;
-# sessions in which each allocation is refused in turn; and operations that the user's own edits free, which are released and told, so
+# Three people, a cursor and a text of the host's that is kept by changes, in C and in Python, and a host that stores before it sends,
+# compared with what they have to write; sessions in which each allocation is refused in turn; and operations that the user's own edits free, which are released and told, so
 # that what is saved is loaded. Where valgrind is there, it has to find no bad access and no block left.
 check-hosts:
 	$(needs-library)
@@ -118,6 +118,9 @@ check-hosts:
 	$(CC) $(HOST_FLAGS) -o bin/cursor examples/embed/cursor.c $(LIB)/libcotpad.a
 	bin/cursor | diff - examples/embed/cursor.c.out
 	$(PACKAGE) python3 examples/embed/cursor.py | diff - examples/embed/cursor.py.out
+	$(CC) $(HOST_FLAGS) -o bin/mirror examples/embed/mirror.c $(LIB)/libcotpad.a
+	bin/mirror | diff - examples/embed/mirror.c.out
+	$(PACKAGE) python3 examples/embed/mirror.py | diff - examples/embed/mirror.py.out
 	$(CC) $(HOST_FLAGS) -o bin/saved examples/embed/saved.c $(LIB)/libcotpad.a
 	bin/saved | diff - examples/embed/saved.c.out
 # In C++, and with two threads.
@@ -153,9 +156,9 @@ wheel:
 	$(needs-library)
 	@rm -rf bin/wheel dist && mkdir -p bin/wheel && cp -r python/pyproject.toml python/setup.py python/README.md python/src LICENSE bin/wheel
 	@python=$$(tools/python pip setuptools wheel) || exit 1; \
-	COTPAD_LIB=$(abspath $(LIB))/libcotpad.so.3 $(if $(filter lib,$(LIB)),,COTPAD_UNPROVED=1) \
+	COTPAD_LIB=$(abspath $(LIB))/libcotpad.so.4 $(if $(filter lib,$(LIB)),,COTPAD_UNPROVED=1) \
 		$$python -m pip wheel -q --no-deps --no-index --no-build-isolation --wheel-dir dist bin/wheel
-	@echo "$$(echo dist/*.whl): made of $(LIB)/libcotpad.so.3"
+	@echo "$$(echo dist/*.whl): made of $(LIB)/libcotpad.so.4"
 
 # Installs the wheel into a new environment, and runs the three people with it, elsewhere.
 check-wheel: wheel
@@ -176,8 +179,8 @@ install:
 	install -d "$(TO)/include" "$(DESTDIR)$(LIBDIR)/pkgconfig"
 	install -m 644 include/cotpad.h "$(TO)/include"
 	install -m 644 "$(LIB)/libcotpad.a" "$(DESTDIR)$(LIBDIR)"
-	install -m 755 "$(LIB)/libcotpad.so.3" "$(DESTDIR)$(LIBDIR)"
-	ln -sf libcotpad.so.3 "$(DESTDIR)$(LIBDIR)/libcotpad.so"
+	install -m 755 "$(LIB)/libcotpad.so.4" "$(DESTDIR)$(LIBDIR)"
+	ln -sf libcotpad.so.4 "$(DESTDIR)$(LIBDIR)/libcotpad.so"
 	$(call pkg-config-file,$(PREFIX),$(LIBDIR)) > "$(DESTDIR)$(LIBDIR)/pkgconfig/cotpad.pc"
 	@if program=$$(tools/program 2> /dev/null); then \
 		install -d "$(TO)/bin" && install -m 755 "$$program" "$(TO)/bin/cotpad" && echo "installed $$program as $(TO)/bin/cotpad"; \
@@ -201,27 +204,27 @@ SECONDS ?= 60
 SEED ?= 1
 RELAY_PYTHON ?= $(firstword $(shell for it in python3 /usr/bin/python3; do $$it -c 'import redis' 2> /dev/null && echo $$it; done) python3)
 check-relay:
-	@test -f "$(LIB)/libcotpad.so.3" || { echo "there is no library for hosts: call \`make quick-lib\` or \`make lib\` first" >&2; false; }
-	@echo "with $(LIB)/libcotpad.so.3 and $(RELAY_PYTHON)"
-	COTPAD_LIB=$(abspath $(LIB))/libcotpad.so.3 $(RELAY_PYTHON) examples/relay/tests/cases.py
-	COTPAD_LIB=$(abspath $(LIB))/libcotpad.so.3 $(RELAY_PYTHON) examples/relay/tests/chaos.py --seconds $(SECONDS) --seed $(SEED)
+	@test -f "$(LIB)/libcotpad.so.4" || { echo "there is no library for hosts: call \`make quick-lib\` or \`make lib\` first" >&2; false; }
+	@echo "with $(LIB)/libcotpad.so.4 and $(RELAY_PYTHON)"
+	COTPAD_LIB=$(abspath $(LIB))/libcotpad.so.4 $(RELAY_PYTHON) examples/relay/tests/cases.py
+	COTPAD_LIB=$(abspath $(LIB))/libcotpad.so.4 $(RELAY_PYTHON) examples/relay/tests/chaos.py --seconds $(SECONDS) --seed $(SEED)
 
 # Wrong bodies of the relay, each of which a case has to tell.
 check-relay-wrong:
-	@test -f "$(LIB)/libcotpad.so.3" || { echo "there is no library for hosts: call \`make quick-lib\` or \`make lib\` first" >&2; false; }
-	COTPAD_LIB=$(abspath $(LIB))/libcotpad.so.3 $(RELAY_PYTHON) examples/relay/tests/wrong.py
+	@test -f "$(LIB)/libcotpad.so.4" || { echo "there is no library for hosts: call \`make quick-lib\` or \`make lib\` first" >&2; false; }
+	COTPAD_LIB=$(abspath $(LIB))/libcotpad.so.4 $(RELAY_PYTHON) examples/relay/tests/wrong.py
 
 # The pad of examples/pad: its modules, its server, and three tabs in a real Chromium. TESTS= names some of its tests alone.
 TESTS ?= examples/pad/tests
-PAD = COTPAD_LIB=$(abspath $(LIB))/libcotpad.so.3 PYTHONDONTWRITEBYTECODE=1
+PAD = COTPAD_LIB=$(abspath $(LIB))/libcotpad.so.4 PYTHONDONTWRITEBYTECODE=1
 check-pad:
-	@test -f "$(LIB)/libcotpad.so.3" || { echo "there is no library for hosts: call \`make quick-lib\` or \`make lib\` first" >&2; false; }
+	@test -f "$(LIB)/libcotpad.so.4" || { echo "there is no library for hosts: call \`make quick-lib\` or \`make lib\` first" >&2; false; }
 	@python=$$(tools/python aiohttp pytest selenium) || exit 1; $(PAD) $$python examples/pad/tests/needs.py || exit 1; \
-	echo "with $(LIB)/libcotpad.so.3 and $$python"; $(PAD) $$python -m pytest -q -p no:cacheprovider $(TESTS)
+	echo "with $(LIB)/libcotpad.so.4 and $$python"; $(PAD) $$python -m pytest -q -p no:cacheprovider $(TESTS)
 
 # Wrong bodies of the pad, each of which a test has to tell.
 check-pad-wrong:
-	@test -f "$(LIB)/libcotpad.so.3" || { echo "there is no library for hosts: call \`make quick-lib\` or \`make lib\` first" >&2; false; }
+	@test -f "$(LIB)/libcotpad.so.4" || { echo "there is no library for hosts: call \`make quick-lib\` or \`make lib\` first" >&2; false; }
 	@python=$$(tools/python aiohttp pytest selenium) || exit 1; $(PAD) $$python examples/pad/tests/needs.py || exit 1; \
 	$(PAD) $$python examples/pad/tests/wrong.py
 
@@ -239,6 +242,8 @@ demo:
 	done; \
 	echo "== examples/explain.log, 1.1/2 explained"; $$program explain 1.1/2 < examples/explain.log; \
 	echo "== examples/hello.log, played back"; $$program playback < examples/hello.log; \
+	echo "== examples/hello.log, operation by operation"; $$program history < examples/hello.log; \
+	echo "== examples/hello.log, hashed"; $$program digest < examples/hello.log; \
 	echo "== examples/exchange.sh"; examples/exchange.sh $(FREE_PORT)
 
 # Compares what the program writes of each example with its report, what a program that drives it through a pipe reads, and its
@@ -253,6 +258,8 @@ check-examples:
 	done; \
 	$$program explain 1.1/2 < examples/explain.log | cmp - examples/explain.steps; \
 	$$program playback < examples/hello.log | cmp - examples/hello.played; \
+	$$program history < examples/hello.log | cmp - examples/hello.history; \
+	$$program digest < examples/hello.log | cmp - examples/hello.digest; \
 	$$program upgrade < examples/version1.log | cmp - examples/hello.log; \
 	examples/exchange.sh $(FREE_PORT) | cmp - examples/exchange.report; \
 	examples/said.sh $(FREE_PORT) | cmp - examples/said.report; \

@@ -22,9 +22,9 @@
  *
  * No call ends the process, prints, waits, or keeps a pointer of the host's. What a site has on the heap goes by
  * cotpad_close; a host frees nothing else. A call that answers neither COTPAD_OK nor COTPAD_UNSETTLED leaves the history,
- * what waits and the text as they were, and writes nothing but what is said of that answer. Four calls do many things one
- * after the other, and may have done the first of them: cotpad_insert_text and cotpad_delete_range tell how many operations they
- * made, cotpad_exchange_close and cotpad_exchange_finish take no operation back.
+ * what waits and the text as they were, and writes nothing but what is said of that answer. Six calls do many things one
+ * after the other, and may have done the first of them: cotpad_insert_text, cotpad_delete_range, cotpad_undo_range and
+ * cotpad_redo_range tell how many operations they made, cotpad_exchange_close and cotpad_exchange_finish take no operation back.
  */
 #ifndef COTPAD_H
 #define COTPAD_H
@@ -37,7 +37,7 @@ extern "C" {
 #endif
 
 /* The version of this header. cotpad_version() tells that of the library: begin by comparing them. */
-#define COTPAD_VERSION 3u
+#define COTPAD_VERSION 4u
 
 /* The bytes of the longest frame: what cotpad_frame needs at most. */
 #define COTPAD_FRAME_MAX 171029u
@@ -56,9 +56,10 @@ typedef uint32_t cotpad_status;
 #define COTPAD_NUMBER_FULL 9u     /* the site has made 1,000,000 inserts and deletes */
 #define COTPAD_CONTEXT_FULL 10u   /* more than 16,384 inserts and deletes were undone */
 #define COTPAD_NO_NAME 11u        /* a site above 1,023, or a number that is 0 or above 1,000,000 */
-#define COTPAD_NONE 12u           /* there is none: no operation at this index, none to release, no character at this place; or, of
-                                   * cotpad_text_before, the index is above the number of operations */
-#define COTPAD_TOO_SHORT 13u      /* the buffer is too short: *needed says how many bytes it takes */
+#define COTPAD_NONE 12u           /* there is none: no operation at this index, none to release, no character at this place, no undo of
+                                   * this name; or, of calls that take the operations before or from an index, or a range of them, the
+                                   * history has fewer */
+#define COTPAD_TOO_SHORT 13u      /* the buffer is too short: *needed says how many bytes, or changes, it takes */
 
 /* Of the bytes of a log or of a message of an exchange; then a verdict says where, and why. */
 #define COTPAD_TOO_LONG 14u  /* more than 67,108,864 bytes; nothing is written. Of cotpad_save, the log would be as long */
@@ -92,6 +93,14 @@ typedef struct {
     uint32_t site;
     uint32_t count;
 } cotpad_count;
+
+/* A change of the shown text: at `place`, after so many shown characters, `removed` characters are taken away, and then `inserted` come
+ * in. */
+typedef struct {
+    uint32_t place;
+    uint32_t removed;
+    uint32_t inserted;
+} cotpad_change;
 
 /* What an operation is. */
 #define COTPAD_OPERATION_INSERT 1u
@@ -160,6 +169,9 @@ COTPAD_LAYOUT(offsetof(cotpad_member, number) == 4);
 COTPAD_LAYOUT(offsetof(cotpad_member, generation) == 8);
 COTPAD_LAYOUT(sizeof(cotpad_count) == 8);
 COTPAD_LAYOUT(offsetof(cotpad_count, count) == 4);
+COTPAD_LAYOUT(sizeof(cotpad_change) == 12);
+COTPAD_LAYOUT(offsetof(cotpad_change, removed) == 4);
+COTPAD_LAYOUT(offsetof(cotpad_change, inserted) == 8);
 COTPAD_LAYOUT(sizeof(cotpad_operation) == 28);
 COTPAD_LAYOUT(offsetof(cotpad_operation, author) == 4);
 COTPAD_LAYOUT(offsetof(cotpad_operation, scalar) == 8);
@@ -233,9 +245,18 @@ cotpad_status cotpad_insert_text(cotpad_site *site, uint32_t place, const uint8_
 /* Deletes `count` shown characters, from the one at `place` on, each by an operation, and releases after each. *made is how many were
  * deleted, as above, and a place counts as there. COTPAD_OK: all of them. Else COTPAD_PLACE_OUT, where they aren't all there, and
  * *made is 0 (unless a release hid what was left of them); or COTPAD_NUMBER_FULL, COTPAD_CONTEXT_FULL, COTPAD_NO_MEMORY or
- * COTPAD_UNSETTLED, where the first *made characters are deleted, and no more. To take a text or a range back, read the names of these
- * operations by cotpad_operation_at, right after the call, and give each to cotpad_undo. */
+ * COTPAD_UNSETTLED, where the first *made characters are deleted, and no more. To take a text or a range back, call cotpad_undo_range
+ * for the operations that the call made, or keep their names (cotpad_operation_at), and give each to cotpad_undo. */
 cotpad_status cotpad_delete_range(cotpad_site *site, uint32_t place, uint32_t count, uint32_t *made);
+
+/* Undoes, or redoes, the inserts and deletes among `count` operations of the history from the index `from` on, whoever made them: the last
+ * one first, each by an operation with releases after it. Undos and redos among these are passed over, and so is what is undone already,
+ * or isn't undone. *made is how many operations were made, as of cotpad_insert_text. COTPAD_OK: all that there were. Else COTPAD_NONE,
+ * where the history hasn't so many operations from there on, and *made is 0; or COTPAD_CONTEXT_FULL, COTPAD_NO_MEMORY,
+ * COTPAD_UNSETTLED or, of redo, COTPAD_GENERATION_FULL, where the first *made are made, and no more: the same call goes on after them,
+ * since it passes over what is done, as long as the range is asked for by the same index. */
+cotpad_status cotpad_undo_range(cotpad_site *site, uint32_t from, uint32_t count, uint32_t *made);
+cotpad_status cotpad_redo_range(cotpad_site *site, uint32_t from, uint32_t count, uint32_t *made);
 
 /* How many operations are integrated, how many wait, and how many characters are shown. */
 uint32_t cotpad_operations(cotpad_site *site);
@@ -245,6 +266,16 @@ uint32_t cotpad_characters(cotpad_site *site);
 /* The insert by which the shown character at `place` stands there, counted from 0, and which of its characters it is, from 0: undo and
  * redo take the site and number. Else COTPAD_NONE: *name and *offset are as they were. */
 cotpad_status cotpad_name_at(cotpad_site *site, uint32_t place, cotpad_member *name, uint32_t *offset);
+
+/* How often the insert or delete of this name was undone and redone: its generation, which is odd while it is undone, and even, from
+ * 0 on, while it is in force. It costs a search among the undone names, whatever the history. Else COTPAD_NO_NAME, or COTPAD_UNKNOWN
+ * where the site hasn't it: *generation is as it was. */
+cotpad_status cotpad_generation(cotpad_site *site, uint32_t name_site, uint32_t number, uint32_t *generation);
+
+/* Who made the latest undo or redo of this name, that of the greatest generation. Of several sites that did the same at once it is the one
+ * whose operation came here first, since the others are repeats of it; so two sites may be told two authors. It costs what
+ * cotpad_generation does. Else COTPAD_NO_NAME, or COTPAD_NONE where nobody undid it: *author is as it was. */
+cotpad_status cotpad_undoer(cotpad_site *site, uint32_t name_site, uint32_t number, uint32_t *author);
 
 /* What the integrated operation at this index is, and who made it. Operations stand in the order of integration, from 0,
  * so what was done last stands at cotpad_operations(site) - 1. Else COTPAD_NONE. */
@@ -259,6 +290,17 @@ cotpad_status cotpad_operation_text(cotpad_site *site, uint32_t index, uint8_t *
  * writes *needed alone, COTPAD_NONE or COTPAD_NO_MEMORY. A site that comes late is sent all frames, from index 0 on. */
 cotpad_status cotpad_frame(cotpad_site *site, uint32_t index, uint8_t *out, size_t room, size_t *needed);
 
+/* The frames of the operations from this index of the history on, one after the other: from 0 on all of them, and from the index that
+ * cotpad_operations told before an edit what that made and released. *needed is the number of their bytes. Else COTPAD_TOO_SHORT, which
+ * writes *needed alone; COTPAD_NONE, where the index is above the number of operations; or COTPAD_NO_MEMORY. */
+cotpad_status cotpad_frames(cotpad_site *site, uint32_t from, uint8_t *out, size_t room, size_t *needed);
+
+/* The frames of all operations that a set of members lacks, in the order of the history: what a peer is sent that has this set. The lists
+ * tell the set as those of cotpad_text_at do, and may have members that the site lacks. It costs by the two sets and by what is written.
+ * *needed is the number of the bytes. Else COTPAD_TOO_SHORT, which writes *needed alone, COTPAD_NO_SET or COTPAD_NO_MEMORY. */
+cotpad_status cotpad_frames_for(cotpad_site *site, const cotpad_count *counts, size_t sites, const cotpad_member *undone, size_t names,
+    uint8_t *out, size_t room, size_t *needed);
+
 /* Delivers the operation of the frame that the bytes begin with, tells its verdict, and of it what it is, who made it and what
  * it waits for; and then releases what is ready. Its author is the number in its sixth and seventh byte, bytes[5] << 8 | bytes[6]:
  * a host that knows who sent the bytes compares the two before this call, since whoever writes under another's number is believed.
@@ -268,8 +310,8 @@ cotpad_status cotpad_frame(cotpad_site *site, uint32_t index, uint8_t *out, size
 cotpad_status cotpad_receive(cotpad_site *site, const uint8_t *bytes, size_t length, cotpad_verdict *verdict);
 
 /* How many operations were released by the last call that could change the site: insert, delete, insert_text, delete_range, undo,
- * redo, receive or settle. 0 after open, load, exchange_close, exchange_finish and release, which tell nothing here, and after a call
- * that was refused before it did anything. A call that only reads leaves the number. */
+ * redo, undo_range, redo_range, receive or settle. 0 after open, load, exchange_close, exchange_finish and release, which tell nothing
+ * here, and after a call that was refused before it did anything. A call that only reads leaves the number. */
 uint32_t cotpad_released(cotpad_site *site);
 
 /* The release at this index, from 0, in the order in which they were done: its verdict, and of the operation the member alone.
@@ -290,6 +332,23 @@ cotpad_status cotpad_release(cotpad_site *site, cotpad_verdict *verdict);
 /* The shown text in UTF-8, with no byte after it; *needed is the number of its bytes. Else COTPAD_TOO_SHORT, which writes
  * *needed alone, or COTPAD_NO_MEMORY. */
 cotpad_status cotpad_text(cotpad_site *site, uint8_t *out, size_t room, size_t *needed);
+
+/* The text of `count` shown characters from the one at `place` on, in UTF-8, with no byte after it; *needed is the number of its bytes. It
+ * costs by the text around the place and by `count`, not by the length of the text. Else COTPAD_TOO_SHORT, which writes *needed alone;
+ * COTPAD_PLACE_OUT, where they aren't all there; or COTPAD_NO_MEMORY. */
+cotpad_status cotpad_text_range(cotpad_site *site, uint32_t place, uint32_t count, uint8_t *out, size_t room, size_t *needed);
+
+/* By what the shown text changed since the history had `from` operations, as from what cotpad_text_before shows there to what cotpad_text
+ * shows. A host that keeps a text of its own, such as the lines of a window, asks cotpad_operations before each call that can change the
+ * site, and makes these changes in its text after it: one after the other, from left to right, each at its place in what those before
+ * it left. At `place`, `removed` characters go, and `inserted` come in: those that cotpad_text_range(site, place, inserted, ..) hands out
+ * now, since nothing left of them changes any more. No character that stays is taken away or comes in, no change is empty, and between
+ * what one lets come in and the place of the next a character stands; so there is one such list alone, and none where nothing changed.
+ * *needed is the number of changes, and `room` counts changes too. Else COTPAD_TOO_SHORT, which writes *needed alone; COTPAD_NONE, where
+ * the history has fewer operations; or COTPAD_NO_MEMORY. The call only reads: whatever it answers, it may be made again, also later,
+ * for all changes since then. It costs a step for each operation since then, and a look at each character that was ever inserted, shown
+ * or not, and at its deletes. */
+cotpad_status cotpad_changes(cotpad_site *site, uint32_t from, cotpad_change *out, size_t room, size_t *needed);
 
 /* The text that the operations before this index of the history show, in UTF-8: the empty one at 0, and the present one at
  * cotpad_operations(site). *needed is the number of its bytes. Else COTPAD_TOO_SHORT, which writes *needed alone; COTPAD_NONE,

@@ -14,7 +14,7 @@ try:
 except ImportError:  # before setuptools 70.1
     from wheel.bdist_wheel import bdist_wheel
 
-VERSION = "3.0.0"
+VERSION = "4.0.0"
 
 
 class WithLibrary(build_py):
@@ -23,9 +23,9 @@ class WithLibrary(build_py):
     def run(self):
         library = os.environ.get("COTPAD_LIB")
         if not library:
-            raise SystemExit("COTPAD_LIB has to name libcotpad.so.3: call `make wheel` at the top of the repository")
+            raise SystemExit("COTPAD_LIB has to name libcotpad.so.4: call `make wheel` at the top of the repository")
         super().run()
-        shutil.copyfile(library, Path(self.build_lib) / "cotpad" / "libcotpad.so.3")
+        shutil.copyfile(library, Path(self.build_lib) / "cotpad" / "libcotpad.so.4")
 
 
 class OfThisMachine(Distribution):

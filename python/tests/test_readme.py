@@ -65,5 +65,23 @@ def test_the_texts_of_the_past(sites):
     assert (names["counts"], names["undone"], names["seen"]) == ({0: 3}, {(0, 2): 1}, "ta")
 
 
+def test_the_text_of_an_editor(sites):
+    ann, bob = sites[:2]
+    names = {"mine": ann}
+    exec(example("docs/EMBEDDING.md", "mine.on_change"), names)
+    send(ann.insert(0, "𝄞 tea"), bob)
+    send(bob.insert(0, "é"), ann)
+    ann.delete(1, 2)
+    assert names["view"] == ann.text == "étea"
+    assert names["deltas"] == [[{"insert": "𝄞 tea"}], [{"insert": "é"}], [{"retain": 1}, {"delete": 3}]]
+    names["end"]()
+    ann.delete(0)
+    assert names["view"] == "étea"
+
+
+def test_the_mirror_in_c_is_that_of_the_example():
+    assert example("docs/EMBEDDING.md", "mirror *m", "c") in (TOP / "examples/embed/mirror.c").read_text()
+
+
 def test_the_cursor_in_c_is_that_of_the_example():
     assert example("docs/EMBEDDING.md", "cursor *c", "c") in (TOP / "examples/embed/cursor.c").read_text()

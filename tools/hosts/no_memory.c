@@ -317,6 +317,94 @@ static void pasts(void) {
     cotpad_close(here);
 }
 
+/* Goes on with a range of the history after what was undone or redone before memory ran out. Nothing waits. */
+static void turn(cotpad_site *site, int redo, uint32_t first, uint32_t count, uint32_t all) {
+    for (;;) {
+        uint32_t made = 9, operations = cotpad_operations(site);
+        cotpad_status answer = redo ? cotpad_redo_range(site, first, count, &made) : cotpad_undo_range(site, first, count, &made);
+        if (made > all || cotpad_operations(site) != operations + made) stop("other operations than were told are undone or redone");
+        all -= made;
+        if (answer == COTPAD_OK) break;
+        if (answer != COTPAD_NO_MEMORY) stop("undo_range or redo_range");
+        again++;
+    }
+    if (all != 0) stop("an operation isn't undone or redone");
+}
+
+/* By these changes, two at most, the text became what it is; a refused call has told none. */
+static void changed(cotpad_site *site, uint32_t since, const cotpad_change *wanted, size_t count) {
+    cotpad_change out[2] = {{7, 7, 7}, {7, 7, 7}};
+    size_t needed = 7;
+    cotpad_status answer = cotpad_changes(site, since, out, 2, &needed);
+    if (answer == COTPAD_NO_MEMORY) {
+        again++;
+        if (needed != 7 || out[0].place != 7 || out[1].place != 7) stop("a refused call told a change");
+        answer = cotpad_changes(site, since, out, 2, &needed);
+    }
+    if (answer != COTPAD_OK || needed != count || memcmp(out, wanted, count * sizeof *out) != 0) stop("other changes");
+}
+
+/* The characters from the second to the last but one; a refused call has written none. */
+static void shows_within(cotpad_site *site, const char *text) {
+    uint8_t out[64];
+    size_t count = 65, length = strlen(text);
+    memset(out, 0xff, sizeof out);
+    cotpad_status answer = cotpad_text_range(site, 1, cotpad_characters(site) - 2, out, sizeof out, &count);
+    if (answer == COTPAD_NO_MEMORY) {
+        again++;
+        if (count != 65 || out[0] != 0xff) stop("a refused call wrote a part of the text");
+        answer = cotpad_text_range(site, 1, cotpad_characters(site) - 2, out, sizeof out, &count);
+    }
+    if (answer != COTPAD_OK || count != length || memcmp(out, text, length) != 0) stop("another part of the text");
+    if (cotpad_text_range(site, 1, 0, out, 0, &count) != COTPAD_OK || count != 0) stop("no character takes memory");
+}
+
+/* All frames, from an index on or but for a set that has the first ones, bring another site to the same text. */
+static void sent(cotpad_site *from, cotpad_site *to) {
+    static const cotpad_count two[] = {{0, 2}};
+    static const cotpad_member none[1];
+    uint8_t all[2048], rest[2048];
+    size_t count = 0, others = 0;
+    DO_AT(from, cotpad_frames(from, 0, all, sizeof all, &count));
+    DO_AT(from, cotpad_frames_for(from, two, 1, none, 0, rest, sizeof rest, &others));
+    if (others >= count || memcmp(all + (count - others), rest, others) != 0) stop("other frames");
+    for (size_t at = 0; at < count; at += 4 + (size_t)all[at + 2] * 256 + all[at + 3])
+        if (receive(to, all + at, count - at) != COTPAD_VERDICT_INTEGRATED) stop("a frame isn't integrated");
+    long before = allocations;
+    if (cotpad_frames(from, cotpad_operations(from), all, 0, &count) != COTPAD_OK || count != 0) stop("frames of nothing");
+    if (allocations != before) stop("frames of nothing take memory");
+}
+
+/* A host's own text: inserts 0.1 of "abcd" and 0.2 of "xy", a delete 0.3, and what is undone and redone of these. */
+static void views(void) {
+    static const cotpad_change typed[] = {{0, 0, 5}}, cut[] = {{1, 1, 2}}, back[] = {{0, 1, 0}, {2, 2, 0}}, none[1];
+    cotpad_site first = COTPAD_SITE_EMPTY, second = COTPAD_SITE_EMPTY;
+    cotpad_site *here = &first, *there = &second;
+    uint32_t generation = 0, author = 7;
+    DO(cotpad_open(here, 0));
+    DO(cotpad_open(there, 1));
+    type(here, 0, "abcd");
+    type(here, 2, "xy");
+    EDIT(here, cotpad_delete(here, 1));
+    shows(here, "axycd");
+    changed(here, 0, typed, 1);
+    changed(here, 1, cut, 1);
+    changed(here, 3, none, 0);
+    shows_within(here, "xyc");
+    turn(here, 0, 0, 1, 1);
+    shows(here, "xy");
+    changed(here, 3, back, 2);
+    turn(here, 1, 0, 4, 1);
+    turn(here, 0, 1, 2, 2);
+    shows(here, "abcd");
+    if (cotpad_generation(here, 0, 1, &generation) != COTPAD_OK || generation != 2) stop("generation");
+    if (cotpad_undoer(here, 0, 3, &author) != COTPAD_OK || author != 0) stop("undoer");
+    sent(here, there);
+    shows(there, "abcd");
+    cotpad_close(there);
+    cotpad_close(here);
+}
+
 /* The text of the operation at this index is so many times one character, whatever the memory; a buffer that is too short gets none of
  * it. */
 static void inserted(cotpad_site *site, uint32_t index, uint8_t letter, size_t times) {
@@ -450,6 +538,7 @@ static void sessions(void) {
     backwards();
     freed_by_an_undo();
     pieces();
+    views();
     pasts();
 }
 

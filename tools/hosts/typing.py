@@ -3,7 +3,7 @@
 site; a text of as many characters by one call; and a document of as many inserts that are saved together, which saves each of some edits
 then, and is opened again.
 
-  COTPAD_LIB=lib/libcotpad.so.3 PYTHONPATH=python/src tools/hosts/typing.py [INSERTS]
+  COTPAD_LIB=lib/libcotpad.so.4 PYTHONPATH=python/src tools/hosts/typing.py [INSERTS]
 """
 import os
 import sys

@@ -1,3 +1,4 @@
+pub mod Changes
 pub mod Exchanges
 pub mod Handles
 pub mod Held

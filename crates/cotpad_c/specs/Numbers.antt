@@ -71,7 +71,7 @@ pub record AreLimits : Type 0 where
 
 -- all of them, in this version
 pub record AreTheNumbers : Type 0 where
-  pub version : VERSION ≡ 3
+  pub version : VERSION ≡ 4
   pub statuses : AreStatuses
   pub operations : AreOperationKinds
   pub verdicts : AreVerdictKinds

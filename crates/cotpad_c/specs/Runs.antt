@@ -1,11 +1,13 @@
--- Runs of edits: a text that is inserted, piece by piece, and a range that is deleted, character by character, each with the releases
--- after it.
+-- Runs of edits: a text that is inserted, piece by piece, a range that is deleted, character by character, and a range of the history of
+-- which each insert and delete is undone or redone, each with the releases after it.
 use Rattle.std.specs.Prelude.{⊤, ◌≡◌, ℕ, ◌≤◌, List, Result, OnOk, length}
 use Rattle.cot_site.specs.Sites.{SiteData}
 use Rattle.participant.specs.declared.edits.Edit.{Edit}
 use Rattle.participant.specs.declared.edits.Stopped.{Stopped}
 use Rattle.participant.specs.Reached.{Reached}
-use Rattle.participant.specs.Runs.{pieces, runs, deletes, IsRun}
+use Rattle.participant.specs.Runs.{pieces, runs, deletes, undos, redos, IsRun}
+use Rattle.context_diff.specs.Operations.{OpData}
+use Rattle.site_ranges.specs.Originals.{originals_at}
 use Rattle.cotpad_c.specs.declared.status.TheConstants.{NO_MEMORY}
 use Rattle.cotpad_c.specs.Hosting.{HostedData, hosting}
 use Rattle.cotpad_c.specs.Statuses.{number_of}
@@ -31,3 +33,19 @@ IsUnbegun n s h made = (n ≡ NO_MEMORY) × (made ≡ 0) × (h ≡ hosting s)
 -- at which memory ran out among the releases
 abbrev pub IsCut : ℕ → Reached → ℕ → ℕ → Reached → ℕ → Type 0
 IsCut n a v count b made = Ran n (deletes v count) count a b made
+
+-- a run of these edits, of which those are passed over for which there is nothing to do
+pub record Turned (n : ℕ) (es : List Edit) (count : ℕ) (a b : Reached) (made : ℕ) : Type 0 where
+  pub end : Result ⊤ Stopped
+  pub status : n ≡ number_of end
+  pub run : IsRun es a (record { made = made; end = end }) b
+  pub within : made ≤ count
+
+-- each insert and delete among so many operations of the history is undone that isn't, the last one first: all of them, or those before
+-- the first that can't be, or those up to the one at which memory ran out among the releases
+abbrev pub IsUndone : ℕ → List OpData → ℕ → ℕ → Reached → Reached → ℕ → Type 0
+IsUndone n h first count a b made = Turned n (undos (originals_at h first count)) count a b made
+
+-- each is redone that isn't in force
+abbrev pub IsRedone : ℕ → List OpData → ℕ → ℕ → Reached → Reached → ℕ → Type 0
+IsRedone n h first count a b made = Turned n (redos (originals_at h first count)) count a b made

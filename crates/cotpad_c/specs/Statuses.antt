@@ -41,9 +41,9 @@ pub record Did (n : ℕ) (r : Result OpData Local) (a b : Reached) : Type 0 wher
 abbrev pub IsMade : ℕ → Type 0
 IsMade n = (n ≡ OK) ⊎ (n ≡ TOO_SHORT)
 
--- bytes that a call hands out into a buffer: all of them, or none where the buffer is too short; their number either way
-pub record Wrote (n : ℕ) (bytes old new : List ℕ) (needed : ℕ) : Type 0 where
-  pub count : needed ≡ length bytes
+-- bytes, or changes, that a call hands out into a buffer: all of them, or none where the buffer is too short; their number either way
+pub record Wrote {A : Type 0} (n : ℕ) (them old new : List A) (needed : ℕ) : Type 0 where
+  pub count : needed ≡ length them
   pub status : (n ≡ OK) ⊎ (n ≡ TOO_SHORT)
-  pub all : n ≡ OK → new ≡ bytes ++ drop (length bytes) old
-  pub short : n ≡ TOO_SHORT → (new ≡ old) × (length old < length bytes)
+  pub all : n ≡ OK → new ≡ them ++ drop (length them) old
+  pub short : n ≡ TOO_SHORT → (new ≡ old) × (length old < length them)

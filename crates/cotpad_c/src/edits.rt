@@ -68,8 +68,8 @@ pub(crate) fn redo(hosted: &mut Hosted, author: u32, number: u32) -> u32
     }
 }
 
-// The name, refused exactly where a part is out of range.
-fn name_of(author: u32, number: u32) -> Result<Name, NameBad>
+/// The name, refused exactly where a part is out of range.
+pub(crate) fn name_of(author: u32, number: u32) -> Result<Name, NameBad>
     ensures accepted { IsOk result ↔ IsName author number }
     ensures site { IfOk result (λ n. n.site ≡ author) }
     ensures number { IfOk result (λ n. n.number ≡ number) }

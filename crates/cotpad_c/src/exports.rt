@@ -1,11 +1,12 @@
 //! What a host calls.
 
-ghost use Rattle.std.specs.Prelude.{◌≡◌, ◌≢◌, ◌⊎◌, ◌↔◌, ◌+◌, ◌<◌, ◌≤◌, ℕ, [], IsSome, IsSomeAnd, IsUtf8, Some, None, chars, length, min, slice_get, take};
+ghost use Rattle.std.specs.Prelude.{◌≡◌, ◌≢◌, ◌⊎◌, ◌↔◌, ◌+◌, ◌<◌, ◌≤◌, ℕ, [], IsSome, IsSomeAnd, IsUtf8, Some, None, chars, drop, false, length, min, slice_get, take, true};
 ghost use Rattle.std.specs.Char.{IsScalar};
 ghost use Rattle.op_name.specs.NameData.{NameData, IsName};
 ghost use Rattle.op_name.specs.declared.name.TheConstants.{SITES};
 ghost use Rattle.op_name.specs.declared.member.Member.TheVariants.{Original};
 ghost use Rattle.context_vector.specs.Contexts.{IsContext};
+ghost use Rattle.context_diff.specs.Histories.{generation_in, is_known};
 ghost use Rattle.context_diff.specs.Operations.{OpData};
 ghost use Rattle.context_diff.specs.Replays.{Cell, shown, text_of};
 ghost use Rattle.site_answers.specs.declared.release.Release.{Release};
@@ -25,27 +26,32 @@ ghost use Rattle.peer_exchange.specs.declared.messages.Which.TheVariants.{First}
 ghost use Rattle.peer_exchange.specs.Messages.{first_message};
 ghost use Rattle.peer_exchange.specs.Refusals.{IsUnread};
 ghost use Rattle.peer_exchange.specs.Closing.{IsFinished, IsUnclosed, IsUnfinished};
+ghost use Rattle.site_ranges.specs.Frames.{frames_of, lacked_by};
+ghost use Rattle.site_ranges.specs.Ranges.{text_at};
+ghost use Rattle.site_ranges.specs.Undoers.{IsLastUndoer};
 ghost use Rattle.participant.specs.Reached.{from, all_settled, IsHalfSettled};
-ghost use Rattle.cotpad_c.specs.declared.status.TheConstants.{OK, NO_MEMORY, SITE_OUT, PLACE_OUT, NO_CHARACTER, NO_NAME, NONE, TOO_SHORT, TOO_LONG, UNSETTLED, NO_SET};
+ghost use Rattle.cotpad_c.specs.declared.status.TheConstants.{OK, NO_MEMORY, SITE_OUT, PLACE_OUT, NO_CHARACTER, UNKNOWN, NO_NAME, NONE, TOO_SHORT, TOO_LONG, UNSETTLED, NO_SET};
 ghost use Rattle.cotpad_c.specs.declared.exports.TheConstants.{VERSION};
 ghost use Rattle.cotpad_c.specs.Operations.{member_told, operation_told, text_told};
+ghost use Rattle.cotpad_c.specs.Changes.{WroteChanges};
 ghost use Rattle.cotpad_c.specs.Hosting.{hosting};
 ghost use Rattle.cotpad_c.specs.Exchanges.{Answers, Closes};
 ghost use Rattle.cotpad_c.specs.Numbers.{AreTheNumbers};
 ghost use Rattle.cotpad_c.specs.Pasts.{set_told, IsNoPast, IsPast};
 ghost use Rattle.cotpad_c.specs.Refusals.{IsLogRefused, IsRefused};
-ghost use Rattle.cotpad_c.specs.Runs.{IsTyped, IsUnbegun, IsCut};
+ghost use Rattle.cotpad_c.specs.Runs.{IsTyped, IsUnbegun, IsCut, IsUndone, IsRedone};
 ghost use Rattle.cotpad_c.specs.Saving.{Loads};
 ghost use Rattle.cotpad_c.specs.Statuses.{Did, IsMade, Wrote};
 ghost use Rattle.cotpad_c.specs.Verdicts.{of_member, answered, received, IsHalfReceived, IsReleased};
 ghost use Rattle.cotpad_c.specs.Held.{fresh, held, held_site, held_state, held_releases, held_reached};
 
+use crate::changes::CotpadChange;
 use crate::handle::CotpadSite;
 use crate::operation::{CotpadCount, CotpadMember, CotpadOperation};
 use crate::refusals::log_refused;
 use crate::status::{NO_MEMORY, OK, SITE_OUT, TOO_LONG};
 use crate::verdict::CotpadVerdict;
-use crate::{edits, exchange, making, pasts, reading, receiving, runs};
+use crate::{changes, edits, exchange, frames, making, pasts, reading, receiving, runs, turns};
 use op_name::SITES;
 use peer_exchange::MAX_MESSAGE;
 use session_log::MAX_LOG;
@@ -53,7 +59,7 @@ use std::alloc::Global;
 use std::mem::replace;
 
 /// The version of these calls, of their structs and of their numbers.
-pub const VERSION: u32 = 3;
+pub const VERSION: u32 = 4;
 
 /// Tells the version.
 #[unsafe(no_mangle)]
@@ -220,6 +226,89 @@ pub extern "C" fn cotpad_redo(site: &mut CotpadSite, author: u32, number: u32) -
     edits::redo(site.inner(), author, number)
 }
 
+/// Undoes the inserts and deletes among so many operations of the history from an index on, the last one first, each with the releases
+/// after it, and answers how many it undid. One that is undone already is passed over.
+#[unsafe(no_mangle)]
+pub extern "C" fn cotpad_undo_range(
+    site: &mut CotpadSite,
+    first: u32,
+    count: u32,
+    made: &mut u32,
+) -> u32
+    requires { IsSome site.old.site }
+    ensures live { IsSome site.new.site }
+    ensures past { length (held_site site.old.site).history < first + count
+        → (result ≡ NONE) × (made.new ≡ 0) × (held site.new.site ≡ hosting (held_site site.old.site)) }
+    ensures undone { first + count ≤ length (held_site site.old.site).history
+        → IsUndone result (held_site site.old.site).history first count (from (held_state site.old.site)) (held_reached site.new.site)
+        made.new }
+{
+    runs::undo_range(site.inner(), first, count, made)
+}
+
+/// Redoes them likewise, and answers how many it redid. One that isn't undone is passed over.
+#[unsafe(no_mangle)]
+pub extern "C" fn cotpad_redo_range(
+    site: &mut CotpadSite,
+    first: u32,
+    count: u32,
+    made: &mut u32,
+) -> u32
+    requires { IsSome site.old.site }
+    ensures live { IsSome site.new.site }
+    ensures past { length (held_site site.old.site).history < first + count
+        → (result ≡ NONE) × (made.new ≡ 0) × (held site.new.site ≡ hosting (held_site site.old.site)) }
+    ensures redone { first + count ≤ length (held_site site.old.site).history
+        → IsRedone result (held_site site.old.site).history first count (from (held_state site.old.site)) (held_reached site.new.site)
+        made.new }
+{
+    runs::redo_range(site.inner(), first, count, made)
+}
+
+/// How often the insert or delete of this name was undone and redone: its generation, odd while it is undone.
+#[unsafe(no_mangle)]
+pub extern "C" fn cotpad_generation(
+    site: &mut CotpadSite,
+    name_site: u32,
+    number: u32,
+    generation: &mut u32,
+) -> u32
+    requires { IsSome site.old.site }
+    ensures known { IsName name_site number
+        → is_known (held_site site.old.site).history (Original (record { site = name_site; number = number })) ≡ true
+        → (result ≡ OK)
+        × (generation.new ≡ generation_in (held_site site.old.site).history (record { site = name_site; number = number })) }
+    ensures unknown { IsName name_site number
+        → is_known (held_site site.old.site).history (Original (record { site = name_site; number = number })) ≡ false
+        → (result ≡ UNKNOWN) × (generation.new ≡ generation.old) }
+    ensures no_name { (IsName name_site number → ⊥) → (result ≡ NO_NAME) × (generation.new ≡ generation.old) }
+    ensures same { site.new.site ≡ site.old.site }
+{
+    turns::generation(site.inner().site(), name_site, number, generation)
+}
+
+/// Who undid or redid the insert or delete of this name last.
+#[unsafe(no_mangle)]
+pub extern "C" fn cotpad_undoer(
+    site: &mut CotpadSite,
+    name_site: u32,
+    number: u32,
+    author: &mut u32,
+) -> u32
+    requires { IsSome site.old.site }
+    ensures turned { IsName name_site number
+        → generation_in (held_site site.old.site).history (record { site = name_site; number = number }) ≢ 0
+        → (result ≡ OK)
+        × IsLastUndoer (held_site site.old.site).history (record { site = name_site; number = number }) author.new }
+    ensures none { IsName name_site number
+        → generation_in (held_site site.old.site).history (record { site = name_site; number = number }) ≡ 0
+        → (result ≡ NONE) × (author.new ≡ author.old) }
+    ensures no_name { (IsName name_site number → ⊥) → (result ≡ NO_NAME) × (author.new ≡ author.old) }
+    ensures same { site.new.site ≡ site.old.site }
+{
+    turns::undoer(site.inner().site(), name_site, number, author)
+}
+
 /// The number of integrated operations.
 #[unsafe(no_mangle)]
 pub extern "C" fn cotpad_operations(site: &mut CotpadSite) -> u32
@@ -322,6 +411,48 @@ pub extern "C" fn cotpad_frame(
     reading::frame_at(alloc, site.inner().site(), index, out, needed)
 }
 
+/// The frames of the operations from this index of the history on, one after the other.
+#[unsafe(no_mangle)]
+pub extern "C" fn cotpad_frames(
+    alloc: Global,
+    site: &mut CotpadSite,
+    first: u32,
+    out: &mut [u8],
+    needed: &mut usize,
+) -> u32
+    requires { IsSome site.old.site }
+    ensures wrote { first ≤ length (held_site site.old.site).history → (result ≡ NO_MEMORY)
+        ⊎ Wrote result (frames_of (drop first (held_site site.old.site).history)) out.old out.new needed.new }
+    ensures none { length (held_site site.old.site).history < first
+        → (result ≡ NONE) × (out.new ≡ out.old) × (needed.new ≡ needed.old) }
+    ensures needed { result ≡ NO_MEMORY → first < length (held_site site.old.site).history }
+    ensures err { result ≡ NO_MEMORY → (out.new ≡ out.old) × (needed.new ≡ needed.old) }
+    ensures same { site.new.site ≡ site.old.site }
+{
+    frames::frames(alloc, site.inner().site(), first, out, needed)
+}
+
+/// The frames of the operations of the history that the set lacks that the lists spell, one after the other.
+#[unsafe(no_mangle)]
+pub extern "C" fn cotpad_frames_for(
+    alloc: Global,
+    site: &mut CotpadSite,
+    counts: &[CotpadCount],
+    undone: &[CotpadMember],
+    out: &mut [u8],
+    needed: &mut usize,
+) -> u32
+    requires { IsSome site.old.site }
+    ensures no_set { (result ≡ NO_SET) ↔ (¬ IsContext (set_told counts.now undone.now)) }
+    ensures wrote { IsContext (set_told counts.now undone.now) → (result ≡ NO_MEMORY)
+        ⊎ Wrote result (frames_of (lacked_by (set_told counts.now undone.now) (held_site site.old.site).history)) out.old out.new
+        needed.new }
+    ensures err { (result ≡ NO_MEMORY) ⊎ (result ≡ NO_SET) → (out.new ≡ out.old) × (needed.new ≡ needed.old) }
+    ensures same { site.new.site ≡ site.old.site }
+{
+    frames::frames_for(alloc, site.inner().site(), counts, undone, out, needed)
+}
+
 /// Delivers the operation of the frame that the bytes begin with, and releases until none is ready.
 #[unsafe(no_mangle)]
 pub extern "C" fn cotpad_receive(
@@ -411,6 +542,50 @@ pub extern "C" fn cotpad_text(
     ensures same { site.new.site ≡ site.old.site }
 {
     reading::text(alloc, site.inner().site(), out, needed)
+}
+
+/// The text of so many shown characters from a place on, in UTF-8.
+#[unsafe(no_mangle)]
+pub extern "C" fn cotpad_text_range(
+    alloc: Global,
+    site: &mut CotpadSite,
+    place: u32,
+    count: u32,
+    out: &mut [u8],
+    needed: &mut usize,
+) -> u32
+    requires { IsSome site.old.site }
+    ensures wrote { place + count ≤ length (shown (held_site site.old.site).history)
+        → (result ≡ NO_MEMORY) ⊎ Wrote result (text_at (held_site site.old.site).history place count) out.old out.new needed.new }
+    ensures past { length (shown (held_site site.old.site).history) < place + count
+        → (result ≡ PLACE_OUT) × (out.new ≡ out.old) × (needed.new ≡ needed.old) }
+    ensures needed { result ≡ NO_MEMORY → 1 ≤ count }
+    ensures err { result ≡ NO_MEMORY → (out.new ≡ out.old) × (needed.new ≡ needed.old) }
+    ensures same { site.new.site ≡ site.old.site }
+{
+    reading::text_range(alloc, site.inner().site(), place, count, out, needed)
+}
+
+/// By what the shown text changed since the history had so many operations: changes from left to right, each in what those before it
+/// left.
+#[unsafe(no_mangle)]
+pub extern "C" fn cotpad_changes(
+    alloc: Global,
+    site: &mut CotpadSite,
+    since: u32,
+    out: &mut [CotpadChange],
+    needed: &mut usize,
+) -> u32
+    requires { IsSome site.old.site }
+    ensures wrote { since ≤ length (held_site site.old.site).history → (result ≡ NO_MEMORY)
+        ⊎ WroteChanges (shown (take since (held_site site.old.site).history)) (shown (held_site site.old.site).history) result
+        out.old out.new needed.new }
+    ensures none { length (held_site site.old.site).history < since
+        → (result ≡ NONE) × (out.new ≡ out.old) × (needed.new ≡ needed.old) }
+    ensures err { result ≡ NO_MEMORY → (out.new ≡ out.old) × (needed.new ≡ needed.old) }
+    ensures same { site.new.site ≡ site.old.site }
+{
+    changes::changes(alloc, site.inner().site(), since, out, needed)
 }
 
 /// The text at the set of members that the lists spell, in UTF-8, or why it has none.

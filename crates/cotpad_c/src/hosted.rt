@@ -13,7 +13,7 @@ ghost use Rattle.participant.specs.Reached.{all_settled, IsHalfSettled};
 ghost use Rattle.participant.specs.Taking.{taken_in, IsUntaken};
 ghost use Rattle.cotpad_c.specs.declared.status.TheConstants.{OK, PLACE_OUT, UNSETTLED};
 ghost use Rattle.cotpad_c.specs.Hosting.{hosting, reached};
-ghost use Rattle.cotpad_c.specs.Runs.{IsTyped, IsCut};
+ghost use Rattle.cotpad_c.specs.Runs.{IsTyped, IsCut, IsUndone, IsRedone};
 ghost use Rattle.cotpad_c.specs.SiteLending.{LendsSite};
 ghost use Rattle.cotpad_c.specs.Statuses.{Did};
 
@@ -22,6 +22,7 @@ use crate::status;
 use context_diff::Op;
 use cot_site::{Release, Site, Verdict};
 use participant::{Edit, Taking, Untaken, delete_range, do_edit, insert_runs, take_in};
+use site_ranges::{redo_range, undo_range};
 use std::alloc::Global;
 use std::marker::Model;
 
@@ -128,6 +129,27 @@ impl Hosted {
         ensures nothing { place + count ≤ length (shown self.old.site.history) → count ≡ 0 → result ≡ OK }
     {
         let run = delete_range(&mut self.site, place, count, &mut self.released);
+        *made = run.made;
+        end_number(run.end)
+    }
+
+    /// Undoes the inserts and deletes among so many operations of the history from this index on, the last one first, and releases after
+    /// each; tells how many undos it made.
+    pub(crate) fn undo_range(&mut self, first: u32, count: u32, made: &mut u32) -> u32
+        requires { first + count ≤ length self.old.site.history }
+        ensures { IsUndone result self.old.site.history first count (reached self.old) (reached self.new) made.new }
+    {
+        let run = undo_range(&mut self.site, first, count, &mut self.released);
+        *made = run.made;
+        end_number(run.end)
+    }
+
+    /// Redoes them likewise; tells how many redos it made.
+    pub(crate) fn redo_range(&mut self, first: u32, count: u32, made: &mut u32) -> u32
+        requires { first + count ≤ length self.old.site.history }
+        ensures { IsRedone result self.old.site.history first count (reached self.old) (reached self.new) made.new }
+    {
+        let run = redo_range(&mut self.site, first, count, &mut self.released);
         *made = run.made;
         end_number(run.end)
     }

@@ -9,9 +9,11 @@
 #![tactic(auto)]
 
 mod cause;
+mod changes;
 mod edits;
 mod exchange;
 mod exports;
+mod frames;
 mod handle;
 mod hosted;
 mod kinds;
@@ -29,4 +31,5 @@ mod spelling;
 mod status;
 #[cfg(test)]
 mod tests;
+mod turns;
 mod verdict;

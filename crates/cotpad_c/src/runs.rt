@@ -1,16 +1,17 @@
-//! Runs of local edits: a text that is inserted, piece by piece, and a range that is deleted, character by character, each with
-//! the releases after it.
+//! Runs of local edits: a text that is inserted, piece by piece, a range that is deleted, character by character, and a range of the
+//! history that is undone or redone, each with the releases after it.
 
-ghost use Rattle.std.specs.Prelude.{◌≡◌, ◌<◌, ◌≤◌, ◌+◌, ◌⊎◌, [], IfOk, IsOk, IsUtf8, chars, length};
+ghost use Rattle.std.specs.Prelude.{◌≡◌, ◌<◌, ◌≤◌, ◌+◌, ◌⊎◌, ◌↔◌, [], IfOk, IsOk, IsTrue, IsUtf8, chars, length};
 ghost use Rattle.context_diff.specs.Replays.{shown};
 ghost use Rattle.cot_site.specs.Sites.{state_of};
 ghost use Rattle.participant.specs.Reached.{from};
-ghost use Rattle.cotpad_c.specs.declared.status.TheConstants.{OK, PLACE_OUT, NO_CHARACTER};
+ghost use Rattle.cotpad_c.specs.declared.status.TheConstants.{OK, PLACE_OUT, NO_CHARACTER, NONE};
 ghost use Rattle.cotpad_c.specs.Hosting.{hosting, reached};
-ghost use Rattle.cotpad_c.specs.Runs.{IsTyped, IsUnbegun, IsCut};
+ghost use Rattle.cotpad_c.specs.Runs.{IsTyped, IsUnbegun, IsCut, IsUndone, IsRedone};
 
 use crate::hosted::Hosted;
 use crate::status;
+use cot_site::Site;
 use op_name::Memory;
 use std::alloc::Global;
 
@@ -67,4 +68,41 @@ pub(crate) fn delete_range(hosted: &mut Hosted, place: u32, count: u32, made: &m
 {
     hosted.forget();
     hosted.delete_range(place, count, made)
+}
+
+/// Undoes the inserts and deletes among so many operations of the history from an index on, and answers how many it undid.
+pub(crate) fn undo_range(hosted: &mut Hosted, first: u32, count: u32, made: &mut u32) -> u32
+    ensures past { length hosted.old.site.history < first + count
+        → (result ≡ NONE) × (made.new ≡ 0) × (hosted.new ≡ hosting hosted.old.site) }
+    ensures undone { first + count ≤ length hosted.old.site.history
+        → IsUndone result hosted.old.site.history first count (from (state_of hosted.old.site)) (reached hosted.new) made.new }
+{
+    *made = 0;
+    hosted.forget();
+    if !has_range(hosted.site(), first, count) {
+        return status::NONE;
+    }
+    hosted.undo_range(first, count, made)
+}
+
+/// Redoes them likewise, and answers how many it redid.
+pub(crate) fn redo_range(hosted: &mut Hosted, first: u32, count: u32, made: &mut u32) -> u32
+    ensures past { length hosted.old.site.history < first + count
+        → (result ≡ NONE) × (made.new ≡ 0) × (hosted.new ≡ hosting hosted.old.site) }
+    ensures redone { first + count ≤ length hosted.old.site.history
+        → IsRedone result hosted.old.site.history first count (from (state_of hosted.old.site)) (reached hosted.new) made.new }
+{
+    *made = 0;
+    hosted.forget();
+    if !has_range(hosted.site(), first, count) {
+        return status::NONE;
+    }
+    hosted.redo_range(first, count, made)
+}
+
+// Whether the history has so many operations from an index on.
+fn has_range(site: &Site, first: u32, count: u32) -> bool
+    ensures { IsTrue result ↔ (first + count ≤ length site.now.history) }
+{
+    u64::from(first) + u64::from(count) <= u64::from(site.book().len())
 }

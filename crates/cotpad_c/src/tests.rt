@@ -2,6 +2,7 @@
 
 ghost use Rattle.std.specs.Prelude.{IfOk, IsSome};
 
+use crate::changes::CotpadChange;
 use crate::handle::CotpadSite;
 use crate::operation::{CotpadCount, CotpadMember, CotpadOperation, no_member, no_operation};
 use crate::verdict::{CotpadVerdict, incomplete};
@@ -26,6 +27,7 @@ fn structs_are_as_long_as_the_header_says(rt: HostRuntime) {
     assert_eq!(rt; size_of::<CotpadCount>(), 8);
     assert_eq!(rt; size_of::<CotpadOperation>(), 28);
     assert_eq!(rt; size_of::<CotpadVerdict>(), 68);
+    assert_eq!(rt; size_of::<CotpadChange>(), 12);
     assert_eq!(rt; size_of::<CotpadSite>(), 8);
 }
 
@@ -33,7 +35,7 @@ fn structs_are_as_long_as_the_header_says(rt: HostRuntime) {
 fn a_handle_is_opened_and_closed(rt: HostRuntime) {
     let alloc = rt.alloc();
     let mut site = CotpadSite::empty(alloc);
-    assert_eq!(rt; exports::cotpad_version(), 3);
+    assert_eq!(rt; exports::cotpad_version(), 4);
     assert_eq!(rt;
         exports::cotpad_open(alloc, &mut site, 1_024),
         status::SITE_OUT
@@ -412,6 +414,136 @@ fn a_text_of_the_past_is_handed_out(rt: HostRuntime) -> Result<(), Fail> {
         &mut why,
     );
     assert_eq!(rt; answer, status::NO_SET);
+    exports::cotpad_close(alloc, &mut site);
+    site.let_go();
+    Ok(())
+}
+
+fn no_change() -> CotpadChange {
+    CotpadChange {
+        place: 9,
+        removed: 9,
+        inserted: 9,
+    }
+}
+
+#[test]
+fn what_changed_is_told_and_read(rt: HostRuntime) -> Result<(), Fail> {
+    let alloc = rt.alloc();
+    let mut made = 9;
+    let mut needed = 9;
+    let mut told = [no_change(), no_change()];
+    let mut room = [0u8; 3];
+    let mut site = opened(alloc)?;
+    // Insert 5.1 of abc, a delete of its b, and insert 5.3 of xé at the end.
+    assert_eq!(rt;
+        exports::cotpad_insert_text(alloc, &mut site, 0, b"abc", &mut made),
+        status::OK
+    );
+    assert_eq!(rt; exports::cotpad_delete(&mut site, 1), status::OK);
+    assert_eq!(rt;
+        exports::cotpad_insert_text(alloc, &mut site, 2, b"x\xC3\xA9", &mut made),
+        status::OK
+    );
+    assert_eq!(rt;
+        exports::cotpad_changes(alloc, &mut site, 1, &mut told[..1], &mut needed),
+        status::TOO_SHORT
+    );
+    assert_eq!(rt; needed, 2);
+    assert_eq!(rt;
+        exports::cotpad_changes(alloc, &mut site, 1, &mut told, &mut needed),
+        status::OK
+    );
+    assert_eq!(rt; told[0].place, 1);
+    assert_eq!(rt; told[0].removed, 1);
+    assert_eq!(rt; told[0].inserted, 0);
+    assert_eq!(rt; told[1].place, 2);
+    assert_eq!(rt; told[1].removed, 0);
+    assert_eq!(rt; told[1].inserted, 2);
+    assert_eq!(rt;
+        exports::cotpad_text_range(alloc, &mut site, 2, 2, &mut room, &mut needed),
+        status::OK
+    );
+    assert_eq!(rt; needed, 3);
+    assert_eq!(rt; room[0], 120);
+    assert_eq!(rt;
+        exports::cotpad_text_range(alloc, &mut site, 3, 2, &mut room, &mut needed),
+        status::PLACE_OUT
+    );
+    assert_eq!(rt;
+        exports::cotpad_changes(alloc, &mut site, 4, &mut told, &mut needed),
+        status::NONE
+    );
+    exports::cotpad_close(alloc, &mut site);
+    site.let_go();
+    Ok(())
+}
+
+#[test]
+fn how_often_and_by_whom_a_name_was_turned(rt: HostRuntime) -> Result<(), Fail> {
+    let alloc = rt.alloc();
+    let mut made = 9;
+    let mut number = 9;
+    let mut site = opened(alloc)?;
+    assert_eq!(rt; exports::cotpad_insert(&mut site, 0, 97), status::OK);
+    assert_eq!(rt; exports::cotpad_insert(&mut site, 1, 98), status::OK);
+    assert_eq!(rt;
+        exports::cotpad_undoer(&mut site, 5, 1, &mut number),
+        status::NONE
+    );
+    assert_eq!(rt;
+        exports::cotpad_undo_range(&mut site, 0, 2, &mut made),
+        status::OK
+    );
+    assert_eq!(rt; made, 2);
+    assert_eq!(rt;
+        exports::cotpad_redo_range(&mut site, 1, 1, &mut made),
+        status::OK
+    );
+    assert_eq!(rt; made, 1);
+    assert_eq!(rt;
+        exports::cotpad_redo_range(&mut site, 4, 2, &mut made),
+        status::NONE
+    );
+    assert_eq!(rt;
+        exports::cotpad_generation(&mut site, 5, 2, &mut number),
+        status::OK
+    );
+    assert_eq!(rt; number, 2);
+    assert_eq!(rt;
+        exports::cotpad_undoer(&mut site, 5, 1, &mut number),
+        status::OK
+    );
+    assert_eq!(rt; number, 5);
+    exports::cotpad_close(alloc, &mut site);
+    site.let_go();
+    Ok(())
+}
+
+#[test]
+fn frames_are_handed_out_together(rt: HostRuntime) -> Result<(), Fail> {
+    let alloc = rt.alloc();
+    let mut needed = 9;
+    let mut room = [0u8; 60];
+    let mut site = opened(alloc)?;
+    assert_eq!(rt; exports::cotpad_insert(&mut site, 0, 97), status::OK);
+    assert_eq!(rt; exports::cotpad_insert(&mut site, 1, 98), status::OK);
+    assert_eq!(rt;
+        exports::cotpad_frames(alloc, &mut site, 0, &mut room, &mut needed),
+        status::OK
+    );
+    assert_eq!(rt; needed, 52);
+    assert_eq!(rt;
+        exports::cotpad_frames(alloc, &mut site, 3, &mut room, &mut needed),
+        status::NONE
+    );
+    let one = [CotpadCount { site: 5, count: 1 }];
+    let none: [CotpadMember; 0] = [];
+    assert_eq!(rt;
+        exports::cotpad_frames_for(alloc, &mut site, &one, &none, &mut room, &mut needed),
+        status::OK
+    );
+    assert_eq!(rt; needed, 29);
     exports::cotpad_close(alloc, &mut site);
     site.let_go();
     Ok(())

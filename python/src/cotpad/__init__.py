@@ -19,16 +19,17 @@ Each call that isn't done raises a CotpadError.
 
 The shared library is the one that COTPAD_LIB names, else the one in this package, else the one that the system finds.
 """
+from .changes import applied, to_delta
 from .cursor import Cursor
 from .document import Document
 from .errors import BadBytes, CotpadError, InUse, NoDocument, NoText, NotSaved, NotTaken, Refused, Unsettled
 from .site import Batch, History, Incoming, Site, exchange
 from .storage import write_safely
 from .undo import Undo
-from .values import Became, Cause, Character, Delivered, Edit, Kind, Member, Name, Operation, Status
+from .values import Became, Cause, Change, Character, Delivered, Edit, Kind, Member, Name, Operation, Status
 
 __all__ = [
-    "BadBytes", "Batch", "Became", "Cause", "Character", "CotpadError", "Cursor", "Delivered", "Document", "Edit", "History",
-    "InUse", "Incoming", "Kind", "Member", "Name", "NoDocument", "NoText", "NotSaved", "NotTaken", "Operation", "Refused", "Site",
-    "Status", "Undo", "Unsettled", "exchange", "write_safely",
+    "BadBytes", "Batch", "Became", "Cause", "Change", "Character", "CotpadError", "Cursor", "Delivered", "Document", "Edit",
+    "History", "InUse", "Incoming", "Kind", "Member", "Name", "NoDocument", "NoText", "NotSaved", "NotTaken", "Operation", "Refused",
+    "Site", "Status", "Undo", "Unsettled", "applied", "exchange", "to_delta", "write_safely",
 ]

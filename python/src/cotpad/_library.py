@@ -7,8 +7,8 @@ from collections.abc import Callable
 from pathlib import Path
 from typing import Any
 
-VERSION = 3
-FILE = "libcotpad.so.3"
+VERSION = 4
+FILE = "libcotpad.so.4"
 
 u32, size = ctypes.c_uint32, ctypes.c_size_t
 byte = ctypes.c_uint8
@@ -20,6 +20,10 @@ class Member(ctypes.Structure):
 
 class Count(ctypes.Structure):
     _fields_ = [(name, u32) for name in ("site", "count")]
+
+
+class Change(ctypes.Structure):
+    _fields_ = [(name, u32) for name in ("place", "removed", "inserted")]
 
 
 class Operation(ctypes.Structure):
@@ -72,7 +76,7 @@ def _call(name: str, result: Any, *params: Any) -> Callable[..., int]:
 # Bytes that a call reads are passed as an address, those that it writes as an array.
 _site, _verdict, _needed = ctypes.POINTER(Handle), ctypes.POINTER(Verdict), ctypes.POINTER(size)
 _read, _out, _count = ctypes.c_void_p, ctypes.POINTER(byte), ctypes.POINTER(u32)
-_counts, _member = ctypes.POINTER(Count), ctypes.POINTER(Member)
+_counts, _member, _changes = ctypes.POINTER(Count), ctypes.POINTER(Member), ctypes.POINTER(Change)
 
 version = _call("version", u32)
 if version() != VERSION:
@@ -86,6 +90,10 @@ insert_text = _call("insert_text", u32, _site, u32, _read, size, _count)
 delete_range = _call("delete_range", u32, _site, u32, u32, _count)
 undo = _call("undo", u32, _site, u32, u32)
 redo = _call("redo", u32, _site, u32, u32)
+undo_range = _call("undo_range", u32, _site, u32, u32, _count)
+redo_range = _call("redo_range", u32, _site, u32, u32, _count)
+generation = _call("generation", u32, _site, u32, u32, _count)
+undoer = _call("undoer", u32, _site, u32, u32, _count)
 operations = _call("operations", u32, _site)
 waiting = _call("waiting", u32, _site)
 characters = _call("characters", u32, _site)
@@ -93,12 +101,16 @@ name_at = _call("name_at", u32, _site, u32, _member, _count)
 operation_at = _call("operation_at", u32, _site, u32, ctypes.POINTER(Operation))
 operation_text = _call("operation_text", u32, _site, u32, _out, size, _needed)
 frame = _call("frame", u32, _site, u32, _out, size, _needed)
+frames = _call("frames", u32, _site, u32, _out, size, _needed)
+frames_for = _call("frames_for", u32, _site, _counts, size, _member, size, _out, size, _needed)
 receive = _call("receive", u32, _site, _read, size, _verdict)
 released = _call("released", u32, _site)
 released_at = _call("released_at", u32, _site, u32, _verdict)
 settle = _call("settle", u32, _site)
 release = _call("release", u32, _site, _verdict)
 text = _call("text", u32, _site, _out, size, _needed)
+text_range = _call("text_range", u32, _site, u32, u32, _out, size, _needed)
+changes = _call("changes", u32, _site, u32, _changes, size, _needed)
 text_before = _call("text_before", u32, _site, u32, _out, size, _needed)
 text_at = _call("text_at", u32, _site, _counts, size, _member, size, _out, size, _needed, _member)
 exchange_offer = _call("exchange_offer", u32, _site, _out, size, _needed)

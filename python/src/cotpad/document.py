@@ -9,9 +9,9 @@ from collections.abc import Callable, Iterable, Iterator, Mapping
 from typing import BinaryIO, Optional
 
 from .errors import InUse, NoDocument, NotSaved, Refused, Unsettled
-from .site import Batch, History, Incoming, Site, Taken
+from .site import Batch, History, Incoming, Site, Taken, Told
 from .storage import Path, write_safely
-from .values import Character, Delivered, Edit, Operation
+from .values import Change, Character, Delivered, Edit, Operation
 
 HEAD = b"COTDOC1\n"
 
@@ -102,6 +102,14 @@ class Document:
     def redo_each(self, names: Iterable[tuple[int, int]]) -> Edit:
         """Redoes these, one after the other, passes over those that are in force, and saves once."""
         return self._saved(lambda site: site.redo_each(names))
+
+    def undo_range(self, first: int, count: int) -> Edit:
+        """Undoes the inserts and deletes among so many operations of the history, the last first, and saves once."""
+        return self._saved(lambda site: site.undo_range(first, count))
+
+    def redo_range(self, first: int, count: int) -> Edit:
+        """Redoes the inserts and deletes among so many operations of the history, the last first, and saves once."""
+        return self._saved(lambda site: site.redo_range(first, count))
 
     @contextlib.contextmanager
     def batch(self) -> Iterator[Batch]:
@@ -202,7 +210,7 @@ class Document:
             self._unsaved = True
             return self._open._take(data, at)
 
-        return Incoming(take)
+        return Incoming(take, self._open._changing)
 
     def settle(self) -> list[Delivered]:
         """Releases until no waiting operation is ready: see `Site.settle`."""
@@ -239,6 +247,21 @@ class Document:
         self._write()
         return self._open.frames(since)
 
+    def frames_for(self, counts: Mapping[int, int], undone: Optional[Mapping[tuple[int, int], int]] = None) -> list[bytes]:
+        """The frames of all operations that a set lacks, after the document is saved: see `Site.frames_for`."""
+        self._write()
+        return self._open.frames_for(counts, undone)
+
+    # By what the shown text changed.
+
+    def changes(self, since: int) -> list[Change]:
+        """By what the shown text changed since the history had `since` operations: see `Site.changes`."""
+        return self._open.changes(since)
+
+    def on_change(self, callback: Told) -> Callable[[], None]:
+        """Calls `callback` with the changes, after each edit that is done and each delivery, saved or not: see `Site.on_change`."""
+        return self._open.on_change(callback)
+
     # What the document has.
 
     @property
@@ -250,6 +273,10 @@ class Document:
     def text(self) -> str:
         """The shown text."""
         return self._open.text
+
+    def text_range(self, place: int, count: int) -> str:
+        """The text of so many shown characters from this place on."""
+        return self._open.text_range(place, count)
 
     def at(self, index: int) -> str:
         """The text that the first `index` operations of the history show: see `Site.at`."""
@@ -282,6 +309,18 @@ class Document:
     def operation(self, index: int) -> Operation:
         """What the operation at this index of the history is, and who made it."""
         return self._open.operation(index)
+
+    def generation(self, name: tuple[int, int]) -> int:
+        """How often this insert or delete was undone and redone: an odd number while it is undone."""
+        return self._open.generation(name)
+
+    def is_in_force(self, name: tuple[int, int]) -> bool:
+        """Whether this insert or delete isn't undone."""
+        return self._open.is_in_force(name)
+
+    def undoer(self, name: tuple[int, int]) -> Optional[int]:
+        """Who made the latest undo or redo of this insert or delete: see `Site.undoer`."""
+        return self._open.undoer(name)
 
     def name_at(self, place: int) -> Character:
         """The character at this place: the insert by which it stands there, and which of that one's characters it is."""

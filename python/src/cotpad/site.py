@@ -13,7 +13,7 @@ from typing import Any, Optional, Protocol, Union, overload
 from . import _library as lib
 from .errors import BadBytes, CotpadError, NoText, Refused, Unsettled, has_text, must, taken
 from .storage import Path, write_safely
-from .values import Became, Character, Delivered, Edit, Kind, Member, Name, Operation, Status
+from .values import Became, Change, Character, Delivered, Edit, Kind, Member, Name, Operation, Status
 
 # A buffer for answers is kept up to this size.
 KEPT = 1 << 20
@@ -21,6 +21,8 @@ KEPT = 1 << 20
 TEXT = 17
 
 
+# Who is told by what the shown text changed.
+Told = Callable[[list[Change]], None]
 # Delivers the frame that bytes have at an offset: the verdict, and what became of the operation and of those it released.
 Taken = tuple[lib.Verdict, list[Delivered]]
 Take = Callable[[bytes, int], Taken]
@@ -64,6 +66,14 @@ class Batch:
         """Redoes these, one after the other, and passes over those that are in force."""
         return self._do(lambda site: site.redo_each(names))
 
+    def undo_range(self, first: int, count: int) -> Edit:
+        """Undoes the inserts and deletes among so many operations of the history, the last first."""
+        return self._do(lambda site: site.undo_range(first, count))
+
+    def redo_range(self, first: int, count: int) -> Edit:
+        """Redoes the inserts and deletes among so many operations of the history, the last first."""
+        return self._do(lambda site: site.redo_range(first, count))
+
     @property
     def edit(self) -> Edit:
         """All that was done, with the frames."""
@@ -96,14 +106,18 @@ class Incoming:
     comes from the one who sent its beginning. `rest` is what came of a frame that isn't whole yet; at the end of a connection that
     is whole it is empty."""
 
-    def __init__(self, take: Take, held: bytes = b"") -> None:
-        self._take, self.rest = take, held
+    def __init__(self, take: Take, within: Callable[[], contextlib.AbstractContextManager[None]], held: bytes = b"") -> None:
+        self._take, self._within, self.rest = take, within, held
 
     def receive(self, data: bytes) -> list[Delivered]:
         """Delivers each frame that is whole, holds what is there of the next one, and answers what became of each operation, releases
         included. Where this raises, `delivered` of the exception has what was done before; bytes that weren't looked at are held,
         so that `receive(b"")` goes on, but for BadBytes, which has them as its `rest`."""
-        data, at, told = self.rest + bytes(data), 0, list[Delivered]()
+        with self._within():
+            return self._received(self.rest + bytes(data))
+
+    def _received(self, data: bytes) -> list[Delivered]:
+        at, told = 0, list[Delivered]()
         try:
             while at < len(data):
                 verdict, became = self._take(data, at)
@@ -143,6 +157,8 @@ class Site:
         self._rooms: dict[str, int] = {}  # what long answers of a call took the last time
         self._rest = b""
         self._watchers: weakref.WeakSet[Watcher] = weakref.WeakSet()
+        self._told: dict[Told, int] = {}  # each with the operations that there were when it was told last
+        self._within, self._telling = 0, False
 
     @classmethod
     def load(cls, number: int, data: bytes) -> Site:
@@ -228,11 +244,24 @@ class Site:
 
     def undo_each(self, names: Iterable[tuple[int, int]]) -> Edit:
         """Undoes these inserts and deletes, one after the other, and passes over those that aren't in force."""
-        return _each(self.undo, names, Status.NOT_IN_FORCE)
+        with self._changing():
+            return _each(self.undo, names, Status.NOT_IN_FORCE)
 
     def redo_each(self, names: Iterable[tuple[int, int]]) -> Edit:
         """Redoes these inserts and deletes, one after the other, and passes over those that are in force."""
-        return _each(self.redo, names, Status.IN_FORCE)
+        with self._changing():
+            return _each(self.redo, names, Status.IN_FORCE)
+
+    def undo_range(self, first: int, count: int) -> Edit:
+        """Undoes the inserts and deletes among so many operations of the history from index `first` on, whoever made them, the last first,
+        and passes over those that aren't in force. Where the history hasn't so many there, none is undone."""
+        made = lib.u32()
+        return self._edited(lambda at: lib.undo_range(at, _index(first), _index(count), made), made)
+
+    def redo_range(self, first: int, count: int) -> Edit:
+        """Redoes them likewise, and passes over those that are in force."""
+        made = lib.u32()
+        return self._edited(lambda at: lib.redo_range(at, _index(first), _index(count), made), made)
 
     @contextlib.contextmanager
     def batch(self) -> Iterator[Batch]:
@@ -256,6 +285,10 @@ class Site:
 
     def _edited(self, call: Callable[[lib.Handle], int], made: Optional[ctypes.c_uint32] = None) -> Edit:
         """Does an edit: `made` says how many operations it made, if they aren't one or none."""
+        with self._changing():
+            return self._edited_within(call, made)
+
+    def _edited_within(self, call: Callable[[lib.Handle], int], made: Optional[ctypes.c_uint32]) -> Edit:
         since = self.operations
         status = call(self._at)
         count = made.value if made is not None else int(status in (Status.OK, Status.UNSETTLED))
@@ -297,7 +330,7 @@ class Site:
 
     def receive(self, data: bytes) -> list[Delivered]:
         """Takes bytes of one sender as they come, also a part of a frame: see `Incoming.receive`."""
-        incoming = Incoming(self._take, self._rest)
+        incoming = Incoming(self._take, self._changing, self._rest)
         try:
             return incoming.receive(data)
         finally:
@@ -305,7 +338,7 @@ class Site:
 
     def incoming(self) -> Incoming:
         """Takes the bytes of one more sender, whose pieces don't mix with those of others."""
-        return Incoming(self._take)
+        return Incoming(self._take, self._changing)
 
     def _take(self, data: bytes, at: int) -> Taken:
         since, verdict = self.operations, lib.Verdict()
@@ -333,9 +366,10 @@ class Site:
 
     def settle(self) -> list[Delivered]:
         """Releases until no waiting operation is ready, and answers what became of each. Called after Unsettled, once there is memory."""
-        since = self.operations
-        status = lib.settle(self._at)
-        told = self._released(since)
+        with self._changing():
+            since = self.operations
+            status = lib.settle(self._at)
+            told = self._released(since)
         if status == Status.UNSETTLED:
             raise Unsettled(delivered=told)
         must(status)
@@ -344,13 +378,72 @@ class Site:
     def release(self) -> Optional[Delivered]:
         """Releases the first waiting operation that is ready, if there is one."""
         since, verdict = self.operations, lib.Verdict()
-        status = lib.release(self._at, verdict)
+        with self._changing():
+            status = lib.release(self._at, verdict)
         if status == Status.NONE:
             return None
         must(status)
         integrated = verdict.kind == Became.INTEGRATED
         operation = self.operation(since) if integrated else _operation(verdict.operation, _only(verdict.operation))
         return _delivered(verdict, operation, released=True)
+
+    # By what the shown text changed.
+
+    def changes(self, since: int) -> list[Change]:
+        """By what the shown text changed since the history had `since` operations, from left to right, each in what the changes before it
+        left: a host's own text becomes this one by them, as `applied` does. No character that stays is touched. An index above
+        `operations`, or below 0, raises Refused with the status NONE."""
+        since, room = _index(since), 8
+        while True:
+            buffer, needed = (lib.Change * room)(), lib.size()
+            status = lib.changes(self._at, since, buffer, room, needed)
+            if status != Status.TOO_SHORT:
+                break
+            room = needed.value
+        must(status)
+        return [Change(it.place, it.removed, self._came(it.place, it.inserted)) for it in buffer[: needed.value]]
+
+    def _came(self, place: int, count: int) -> str:
+        return self.text_range(place, count) if count else ""
+
+    def on_change(self, callback: Told) -> Callable[[], None]:
+        """Calls `callback` with the list of `changes`, from now on after each call of this object that changed the shown text, also one
+        that raises; and answers what to call to end that. The callback must not change the site, nor raise, since what the call
+        answers would be lost. Where there is no memory for the list, it comes with that of the next call."""
+        self._told[callback] = self.operations
+
+        def end() -> None:
+            self._told.pop(callback, None)
+
+        return end
+
+    @contextlib.contextmanager
+    def _changing(self) -> Iterator[None]:
+        """The shown text may change within this; at the end of the outermost one it is told by what."""
+        if self._telling:
+            raise RuntimeError("a callback of on_change must not change the site")
+        self._within += 1
+        try:
+            yield
+        finally:
+            self._within -= 1
+            if self._told and not self._within:
+                self._tell()
+
+    def _tell(self) -> None:
+        now, since_then = self.operations, dict[int, list[Change]]()
+        self._telling = True
+        try:
+            for callback, since in list(self._told.items()):
+                if since not in since_then:
+                    since_then[since] = self.changes(since)
+                self._told[callback] = now
+                if since_then[since]:
+                    callback(since_then[since])
+        except Refused:
+            pass  # no memory: they are told after the next call
+        finally:
+            self._telling = False
 
     # What the site has.
 
@@ -374,6 +467,10 @@ class Site:
         """The shown text."""
         return self._written(lib.text).decode()
 
+    def text_range(self, place: int, count: int) -> str:
+        """The text of so many shown characters from this place on, which costs by these, and not by the length of the text."""
+        return self._written(lib.text_range, _place(place), _place(count)).decode()
+
     def at(self, index: int) -> str:
         """The text that the first `index` operations of the history show: the empty one at 0, and the present one at `operations`. An index
         above that, or below 0, raises Refused with the status NONE. Each call executes so many operations once more: for the texts of all
@@ -386,14 +483,10 @@ class Site:
         in the set the greatest generation, which stands for the lower ones too. All of the set has to be integrated here, and the set
         has to have what its inserts and deletes were made after, and what its undos undo, as what a site has does, and what it had at
         any time. Else NoText is raised, whose status says why: NO_SET also for a count or a generation of 0."""
-        why = lib.Member()
-        entries = sorted((site, number, generation) for (site, number), generation in (undone or {}).items())
-        if not all(_fits(it) for them in (*counts.items(), *entries) for it in them):
+        why, spelled = lib.Member(), _set(counts, undone)
+        if spelled is None:
             raise NoText(Status.NO_SET, why)
-        sites, names = (lib.Count * len(counts))(*sorted(counts.items())), (lib.Member * len(entries))(*entries)
-        return self._filled(
-            "text_at", lambda *out: lib.text_at(self._at, sites, len(sites), names, len(names), *out, why), lambda it: has_text(it, why)
-        ).decode()
+        return self._filled("text_at", lambda *out: lib.text_at(self._at, *spelled, *out, why), lambda it: has_text(it, why)).decode()
 
     @property
     def history(self) -> History:
@@ -422,13 +515,42 @@ class Site:
         """The characters from place `start` on, and before `stop`."""
         return [self.name_at(place) for place in range(start, stop)]
 
+    def generation(self, name: tuple[int, int]) -> int:
+        """How often this insert or delete was undone and redone: an odd number while it is undone. A name that the site hasn't raises
+        Refused with the status UNKNOWN."""
+        generation = lib.u32()
+        must(lib.generation(self._at, *_name(name), generation))
+        return generation.value
+
+    def is_in_force(self, name: tuple[int, int]) -> bool:
+        """Whether this insert or delete isn't undone, so that `undo` takes it."""
+        return self.generation(name) % 2 == 0
+
+    def undoer(self, name: tuple[int, int]) -> Optional[int]:
+        """Who made the latest undo or redo of this insert or delete; None where it was never undone. Of several who did so at once it is
+        the one whose operation came here first, so another copy may tell another."""
+        author = lib.u32()
+        status = lib.undoer(self._at, *_name(name), author)
+        if status == Status.NONE:
+            return None
+        must(status)
+        return author.value
+
     def frame(self, index: int) -> bytes:
         """The frame of the operation at this index of the history."""
         return self._written(lib.frame, _index(index))
 
     def frames(self, since: int = 0) -> list[bytes]:
         """The frames of the history, from this index on: all of them are for a site that comes late."""
-        return [self.frame(index) for index in range(since, self.operations)]
+        return _frames_in(self._written(lib.frames, _index(since))) if since < self.operations else []
+
+    def frames_for(self, counts: Mapping[int, int], undone: Optional[Mapping[tuple[int, int], int]] = None) -> list[bytes]:
+        """The frames of all operations that a set lacks, in the order of the history: what one is sent who has these. The set is told as
+        that of `text_at`, and may have what isn't here. A number that is out of its range raises Refused with the status NO_SET."""
+        spelled = _set(counts, undone)
+        if spelled is None:
+            raise Refused(Status.NO_SET)
+        return _frames_in(self._filled("frames_for", lambda *out: lib.frames_for(self._at, *spelled, *out), must))
 
     # An exchange: two sites that were apart tell each other what they have, and send what the other lacks.
 
@@ -442,12 +564,15 @@ class Site:
 
     def join(self, second: bytes) -> bytes:
         """Takes in the second message, and answers the third: what the other site lacks. What came in is in the history."""
-        return self._replied(lib.exchange_close, second)
+        with self._changing():
+            return self._replied(lib.exchange_close, second)
 
     def finish(self, third: bytes) -> None:
         """Takes in the third message. Both sites have the same operations then, if nothing waited."""
         why, third = lib.Verdict(), bytes(third)
-        taken(lib.exchange_finish(self._at, third, len(third), why), why)
+        with self._changing():
+            status = lib.exchange_finish(self._at, third, len(third), why)
+        taken(status, why)
 
     # Bytes that the library writes.
 
@@ -515,6 +640,25 @@ def _index(index: int) -> int:
     if not _fits(index):
         raise Refused(Status.NONE)
     return index
+
+
+def _set(counts: Mapping[int, int], undone: Optional[Mapping[tuple[int, int], int]]) -> Optional[tuple[Any, int, Any, int]]:
+    """The lists that spell a set, each with its length, unless a number doesn't fit."""
+    entries = sorted((site, number, generation) for (site, number), generation in (undone or {}).items())
+    if not all(_fits(it) for them in (*counts.items(), *entries) for it in them):
+        return None
+    sites, names = (lib.Count * len(counts))(*sorted(counts.items())), (lib.Member * len(entries))(*entries)
+    return sites, len(sites), names, len(names)
+
+
+def _frames_in(data: bytes) -> list[bytes]:
+    """The frames that stand one after the other, each of which begins with the length of its rest."""
+    frames, at = list[bytes](), 0
+    while at < len(data):
+        end = at + 4 + int.from_bytes(data[at : at + 4], "big")
+        frames.append(data[at:end])
+        at = end
+    return frames
 
 
 def _name(name: tuple[int, int]) -> tuple[int, int]:

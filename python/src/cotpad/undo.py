@@ -6,7 +6,7 @@ from collections.abc import Callable, Iterable, Iterator
 from typing import Optional, Union
 
 from .document import Document
-from .site import Site
+from .site import Batch, Site
 from .values import Delivered, Edit, Kind, Name, Operation
 
 # Where a frame has the place of an insert or a delete.
@@ -23,6 +23,7 @@ class Undo:
         undo.last()                      # takes back the whole text
         undo.last_of(2)                  # what site 2 did last
         undo.within(4, 9)                # what was written last of what stands there
+        undo.since(index)                # all that was done since the history had so many operations
         undo.redo()                      # brings back what this object took back last
 
     Each answers the frames to send, and an empty Edit where there is nothing to take back.
@@ -102,6 +103,11 @@ class Undo:
         groups = self._groups_back(lambda it: it.name in there)
         return self._first_in_force([name for name in group if name in there] for group in groups)
 
+    def since(self, index: int) -> Edit:
+        """Takes back all inserts and deletes, whoever made them, that were integrated since the history had `index` operations: what
+        somebody did after coming in, say. Undos and redos among them aren't turned."""
+        return self._turning(lambda batch: batch.undo_range(index, self._editor.operations - index))
+
     def redo(self) -> Edit:
         """Brings back what this object took back last, as far as nobody did; an insert or a delete of this site ends that."""
         with self._editor.batch() as batch:
@@ -112,13 +118,21 @@ class Undo:
 
     def _first_in_force(self, groups: Iterable[list[Name]]) -> Edit:
         """Takes back the first group of which something is in force."""
+
+        def first(batch: Batch) -> None:
+            for group in groups:
+                batch.undo_each(reversed(group))
+                if self._turned:
+                    break
+
+        return self._turning(first)
+
+    def _turning(self, undo: Callable[[Batch], object]) -> Edit:
+        """Takes back what `undo` does, for `redo`."""
         with self._editor.batch() as batch:
             self._turned = []
             try:
-                for group in groups:
-                    batch.undo_each(reversed(group))
-                    if self._turned:
-                        break
+                undo(batch)
             finally:
                 if self._turned:
                     self._undone.append(self._turned)

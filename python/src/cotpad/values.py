@@ -135,6 +135,15 @@ class Operation(NamedTuple):
         return self.kind in (Kind.INSERT, Kind.DELETE)
 
 
+class Change(NamedTuple):
+    """A change of the shown text: at `place`, after so many characters, `removed` characters are taken away, and then `text` comes in. Of
+    a list of changes each place is in what the changes before it left, from left to right."""
+
+    place: int
+    removed: int
+    text: str
+
+
 class Delivered(NamedTuple):
     """What became of an operation that was delivered or, if `released`, that had waited. Where it WAITS, `missing` is the first
     thing that the site lacks of what it was made after. Where it is NOT_CLOSED, its context lacks what the last operation of `site`
