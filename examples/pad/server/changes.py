@@ -1,11 +1,7 @@
-"""Which characters a call of the library changed.
+"""Which characters a call of the library changed, as a delta with their authors.
 
-The library doesn't tell it. So this compares the names of the characters that are shown, before and after: a character is named by its
-insert and its offset there, such a name stands at most once in a text, and characters never change their order, so that tells exactly
-what came and what went, also where an undo brings back several pieces, or one `e` out of several.
-
-What one insert brings stands in one piece, and a delete takes one character. Where a call integrated one of these, or an undo of one
-character, its place is found by halving, in some ten steps. Else all names are read, which costs by the length of the text.
+The library tells by what the text changed. Who wrote a character is told by its name: that of its insert, and its offset there; so the
+names of the characters that are shown are kept here, and changed as the text is.
 """
 from .delta import Writer
 from .library import cotpad
@@ -34,50 +30,25 @@ class Shown:
 
     def follow(self):
         """Goes on to what the document shows now. Answers the delta, and the operations that were integrated meanwhile."""
+        changes = self._document.changes(self._read)
         came = self._document.history[self._read :]
         self._read += len(came)
         self._learn(came)
-        before, count = len(self.names), self._document.characters
-        if len(came) == 1 and (came[0].kind is cotpad.Kind.INSERT or count == before + 1):
-            return self._more(count - before), came
-        if len(came) == 1 and count == before - 1:
-            return self._one_less(), came
-        if not came or len(came) == 1 and count == before:
-            return [before] if before else [], came
-        names = self._document.names(0, count)
-        delta = difference(self.names, names, self.letters)
-        self.names = names
-        return delta, came
+        return self._changed(changes), came
 
-    def _more(self, count):
-        place, writer = self._first_other(len(self.names)), Writer()
-        names = self._document.names(place, place + count)
-        writer.keep(place)
-        for it in names:
-            writer.insert(it.name.site, self.letters[it])
-        writer.keep(len(self.names) - place)
-        self.names[place:place] = names
+    def _changed(self, changes):
+        """The delta of these changes, which are made in the names."""
+        writer, at = Writer(), 0
+        for it in changes:
+            names = self._document.names(it.place, it.place + len(it.text))
+            writer.keep(it.place - at)
+            for author, letter in self.text_of(names):
+                writer.insert(author, letter)
+            writer.remove(it.removed)
+            self.names[it.place : it.place + it.removed] = names
+            at = it.place + len(names)
+        writer.keep(len(self.names) - at)
         return writer.parts
-
-    def _one_less(self):
-        place, writer = self._first_other(len(self.names) - 1), Writer()
-        del self.names[place]
-        writer.keep(place)
-        writer.remove(1)
-        writer.keep(len(self.names) - place)
-        return writer.parts
-
-    def _first_other(self, stop):
-        """The first place, before `stop` or at it, where another character stands than before: up to there all are the same, and from
-        there on none is, since all names differ."""
-        low = 0
-        while low < stop:
-            middle = (low + stop) // 2
-            if self._document.name_at(middle) == self.names[middle]:
-                low = middle + 1
-            else:
-                stop = middle
-        return low
 
 
 def difference(before, after, letters):

@@ -55,9 +55,9 @@ WRONG = [
      "    while tail < most - head and before[-1 - tail] == after[-1 - tail]:\n        tail += 1\n"
      "    was, now = set(before[:head] + before[len(before) - tail :]), set(before[:head] + before[len(before) - tail :])\n",
      "test_changes.py::test_several_pieces_are_told_as_several"),
-    ("one change is found by letters, not by names", "server/changes.py",
-     "if self._document.name_at(middle) == self.names[middle]:",
-     "if self.letters[self._document.name_at(middle)] == self.letters[self.names[middle]]:",
+    ("what goes by a change is taken away behind its place", "server/changes.py",
+     "self.names[it.place : it.place + it.removed] = names",
+     "self.names[it.place + 1 : it.place + 1 + it.removed] = names",
      "test_changes.py::test_which_of_two_equal_letters_went_is_told"),
     ("the tab doesn't put deltas that crossed in step", "page/sync.js",
      "    if (this.way !== null) [this.way, delta] = crossed(this.way, delta);\n", "",
