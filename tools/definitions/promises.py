@@ -130,7 +130,15 @@ PROMISES = (
     Promise(
         "From C: edits",
         "An edit is done, and followed by the releases; or a status says why not.",
-        functions(EXPORTS, "cotpad_insert", "cotpad_delete", "cotpad_undo", "cotpad_redo", "cotpad_insert_text", "cotpad_delete_range"),
+        functions(
+            EXPORTS, "cotpad_insert", "cotpad_delete", "cotpad_undo", "cotpad_redo", "cotpad_insert_text", "cotpad_delete_range",
+            "cotpad_undo_range", "cotpad_redo_range",
+        ),
+    ),
+    Promise(
+        "From C: changes",
+        "A host's own text becomes the shown one by the changes that are told since any moment of the history, and by no others.",
+        functions(EXPORTS, "cotpad_changes", "cotpad_text_range"),
     ),
     Promise(
         "From C: deliveries",
