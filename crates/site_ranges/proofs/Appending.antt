@@ -1,9 +1,8 @@
 -- Bytes that are appended piece by piece.
-use Rattle.std.proofs.Common.{◌≡◌, List, [], ◌++◌, ℕ, length, take, drop, refl, sym, ap, ◌∙◌, append_assoc, append-nil}
+use Rattle.std.proofs.Common.{◌≡◌, List, [], ◌++◌, ℕ, length, take, drop, refl, sym, ap, ◌∙◌, append_assoc, append-nil, arith}
 use Rattle.std.proofs.Math.Seq.{take-append_seam}
 use Rattle.std.proofs.lemmas.List.{take-append-drop, take_all}
 use Rattle.wire_codec.proofs.CallerLemmas.{front_of_front}
-use Rattle.std.proofs.Common.{arith}
 
 -- on the way from what was held to that with all behind it: what is there now, and what is left
 pub record IsUnderWay {A : Type 0} (old all now left : List A) : Type 0 where

@@ -13,8 +13,9 @@ use Rattle.tombstone_text.specs.Cells.{CellsData}
 use Rattle.tombstone_text.specs.Chunks.{flat, joined, flag_of, shown_in}
 use Rattle.tombstone_text.specs.Sums.{IsPart}
 use Rattle.tombstone_text.proofs.CallerLemmas.{beside_at, beside_count, beside_taken, sum-shown}
+use Rattle.visible_view.specs.Code.{flagged}
 use Rattle.site_ranges.specs.Ranges.{range_of}
-use Rattle.site_ranges.specs.Code.Chunks.{flagged, shown_at, shown_from}
+use Rattle.site_ranges.specs.Code.Chunks.{shown_at, shown_from}
 use Rattle.site_ranges.proofs.Ranges.{range-append, range_none, range_nothing, range_past, range_behind}
 
 -- ---- one chunk
@@ -189,6 +190,7 @@ from_first t i before place count beside cells text part =
     ∙ (λ j. chars_where cell_shown
     (flat_map-append (λ (c : List CellData). c) (take i t.chunks) (drop i t.chunks) j)
     (flat_map-append (λ (c : List ℕ). c) (take i t.texts) (drop i t.texts) j))
-    ∙ chars_where-append cell_shown (flat (take i t.chunks)) (flat (drop i t.chunks)) (joined (take i t.texts)) (joined (drop i t.texts)) long in
+    ∙ chars_where-append cell_shown (flat (take i t.chunks)) (flat (drop i t.chunks)) (joined (take i t.texts)) (joined (drop i t.texts))
+    long in
     sym (ap (λ (cs : List ℕ). encode_utf8_all (range_of place count cs)) parts
     ∙ ap encode_utf8_all (range_behind (sum (take i (map shown_in t.chunks))) before place count front (shown_from t i) many part.place))

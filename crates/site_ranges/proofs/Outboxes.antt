@@ -17,7 +17,8 @@ use Rattle.site_ranges.proofs.Undoers.{known_by}
 
 -- ---- frames of what stands from a place on
 
-frames_cut : (os : List OpData) (i : ℕ) (o : OpData) → slice_get os i ≡ Some o → frames_of (drop i os) ≡ frame Two o ++ frames_of (drop (suc i) os)
+frames_cut : (os : List OpData) (i : ℕ) (o : OpData) → slice_get os i ≡ Some o
+    → frames_of (drop i os) ≡ frame Two o ++ frames_of (drop (suc i) os)
 frames_cut [] i o at = cc
 frames_cut (p ∷ ps) zero o at = let same : p ≡ o = cc in ap (λ (x : OpData). frame Two x ++ frames_of ps) same
 frames_cut (p ∷ ps) (suc i) o at = frames_cut ps i o at

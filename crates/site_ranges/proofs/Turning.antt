@@ -44,7 +44,8 @@ turns_parts redo h from n m k sum =
     ∙ turns-append redo (originals_at h from n) (originals_at h (from + n) m)
 
 -- what stands before the end of a list stands there in a longer one
-pub range_stays : {A : Type 0} (h k : List A) (from n : ℕ) → take (length h) k ≡ h → from + n ≤ length h → range_of from n k ≡ range_of from n h
+pub range_stays : {A : Type 0} (h k : List A) (from n : ℕ) → take (length h) k ≡ h → from + n ≤ length h
+    → range_of from n k ≡ range_of from n h
 range_stays {A} h k from n begins within =
     let rest = length h - from in
     let all : from + rest ≡ length h = omega (arith, within) in
@@ -83,7 +84,8 @@ module _ (redo : Bool) (h k : List OpData) (from left count made n : ℕ) (p : P
     (begins : take (length h) k ≡ h) (within : from + count ≤ length h) (some : 0 < left) (few : left ≤ count)
     (behind : Runs (turns redo (originals_at h (from + left) (count - left))) p (Ok tt) (record { reached = a; made = made }))
     (one : Runs (turns redo (originals_at k (from + (left - 1)) 1)) (begun a) end (record { reached = b; made = n })) where
-  pub turned_one : Runs (turns redo (originals_at h (from + (left - 1)) (count - (left - 1)))) p end (record { reached = b; made = made + n })
+  pub turned_one : Runs (turns redo (originals_at h (from + (left - 1)) (count - (left - 1)))) p end
+      (record { reached = b; made = made + n })
   turned_one =
       let at = from + (left - 1) in
       let next : at + 1 ≡ from + left = omega (arith, some) in
@@ -92,9 +94,11 @@ module _ (redo : Bool) (h k : List OpData) (from left count made n : ℕ) (p : P
       ∙ ap (λ (i : ℕ). turns redo (originals_at h i (count - left)) ++ turns redo (originals_at h at 1)) next in
       let same = ap (λ (os : List OpData). turns redo (originals_in os)) (range_stays h k at 1 begins (omega (arith, within, some, few))) in
       let none : made + 0 ≡ made = omega arith in
-      let counted : Runs (turns redo (originals_at h at 1)) (record { reached = a; made = made }) end (record { reached = b; made = made + n }) =
+      let counted : Runs (turns redo (originals_at h at 1)) (record { reached = a; made = made }) end
+      (record { reached = b; made = made + n }) =
       subst (λ (es : List Edit). Runs es (record { reached = a; made = made }) end (record { reached = b; made = made + n })) same
-      (subst (λ (m : ℕ). Runs (turns redo (originals_at k at 1)) (record { reached = a; made = m }) end (record { reached = b; made = made + n }))
+      (subst (λ (m : ℕ). Runs (turns redo (originals_at k at 1)) (record { reached = a; made = m }) end
+      (record { reached = b; made = made + n }))
       none (runs_counted made (turns redo (originals_at k at 1)) (begun a) end (record { reached = b; made = n }) one)) in
       subst (λ (es : List Edit). Runs es p end (record { reached = b; made = made + n })) (sym parts)
       (runs_on (turns redo (originals_at h (from + left) (count - left))) (turns redo (originals_at h at 1)) p

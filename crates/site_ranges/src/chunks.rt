@@ -2,8 +2,9 @@
 
 ghost use Rattle.std.specs.Prelude.{◌≡◌, ◌+◌, ◌<◌, ◌≤◌, ◌++◌, filter, length, take, encode_utf8, encode_utf8_all, OnOk, OnErr};
 ghost use Rattle.ttf_form.specs.Cells.{cell_shown, chars_where};
+ghost use Rattle.visible_view.specs.Code.{flagged};
 ghost use Rattle.site_ranges.specs.Ranges.{range_of};
-ghost use Rattle.site_ranges.specs.Code.Chunks.{flagged, shown_at, shown_from};
+ghost use Rattle.site_ranges.specs.Code.Chunks.{shown_at, shown_from};
 
 use op_name::Memory;
 use tombstone_text::Cells;

@@ -8,6 +8,8 @@ mod generations;
 mod inserts;
 mod laws;
 mod outbox;
+#[cfg(test)]
+mod tests;
 mod texts;
 mod turns;
 

@@ -85,7 +85,8 @@ fn put_lacked(book: &Book, have: &Vector, out: &mut Vec<u8>) -> Result<(), Memor
 // Appends the frame of the operation that is the member.
 fn put_member(book: &Book, member: &Member, out: &mut Vec<u8>) -> Result<(), Memory>
     requires { is_known book.now.ops member.now ≡ true }
-    ensures ok { OnOk result ((o : OpData) → Contains book.now.ops o → member_of o ≡ member.now → out.new.items ≡ out.old.items ++ frame Two o) }
+    ensures ok { OnOk result ((o : OpData) → Contains book.now.ops o → member_of o ≡ member.now
+        → out.new.items ≡ out.old.items ++ frame Two o) }
     ensures err { OnErr result (out.new.items ≡ out.old.items) }
 {
     book.known();

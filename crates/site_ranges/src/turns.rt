@@ -24,7 +24,8 @@ use std::slice;
 /// over where the same range is given again: its operations stand where they stood. It takes no memory but for the undos.
 pub fn undo_range(site: &mut Site, from: u32, count: u32, released: &mut Vec<Release>) -> Run
     requires { from + count ≤ length site.old.history }
-    ensures run { IsRun (undos (originals_at site.old.history from count)) (at site.old released.old.items) result (at site.new released.new.items) }
+    ensures run { IsRun (undos (originals_at site.old.history from count)) (at site.old released.old.items) result
+        (at site.new released.new.items) }
     ensures within { result.made ≤ count }
     ensures settled { IsSettled (state_of site.old) → result.end ≢ Err Stopped.Unsettled → IsSettled (state_of site.new) }
     ensures later { IsLater (state_of site.old) (state_of site.new) }
@@ -40,7 +41,8 @@ pub fn undo_range(site: &mut Site, from: u32, count: u32, released: &mut Vec<Rel
 /// over where the same range is given again.
 pub fn redo_range(site: &mut Site, from: u32, count: u32, released: &mut Vec<Release>) -> Run
     requires { from + count ≤ length site.old.history }
-    ensures run { IsRun (redos (originals_at site.old.history from count)) (at site.old released.old.items) result (at site.new released.new.items) }
+    ensures run { IsRun (redos (originals_at site.old.history from count)) (at site.old released.old.items) result
+        (at site.new released.new.items) }
     ensures within { result.made ≤ count }
     ensures settled { IsSettled (state_of site.old) → result.end ≢ Err Stopped.Unsettled → IsSettled (state_of site.new) }
     ensures later { IsLater (state_of site.old) (state_of site.new) }
@@ -58,7 +60,8 @@ fn turn_range(
     released: &mut Vec<Release>,
 ) -> Run
     requires { from + count ≤ length site.old.history }
-    ensures run { IsRun (turns redo (originals_at site.old.history from count)) (at site.old released.old.items) result (at site.new released.new.items) }
+    ensures run { IsRun (turns redo (originals_at site.old.history from count)) (at site.old released.old.items) result
+        (at site.new released.new.items) }
     ensures within { result.made ≤ count }
     ensures settled { IsSettled (state_of site.old) → result.end ≢ Err Stopped.Unsettled → IsSettled (state_of site.new) }
     ensures later { IsLater (state_of site.old) (state_of site.new) }
@@ -80,7 +83,8 @@ fn turn_range(
 // Undoes the operation at an index of the history, or redoes it; nothing is done of an undo or redo.
 fn turn_at(site: &mut Site, i: u32, redo: bool, released: &mut Vec<Release>) -> Run
     requires { i < length site.old.history }
-    ensures run { IsRun (turns redo (originals_at site.old.history i 1)) (at site.old released.old.items) result (at site.new released.new.items) }
+    ensures run { IsRun (turns redo (originals_at site.old.history i 1)) (at site.old released.old.items) result
+        (at site.new released.new.items) }
     ensures within { result.made ≤ 1 }
     ensures settled { IsSettled (state_of site.old) → result.end ≢ Err Stopped.Unsettled → IsSettled (state_of site.new) }
     ensures later { IsLater (state_of site.old) (state_of site.new) }
@@ -117,7 +121,8 @@ fn name_of(op: &Op) -> Option<Name>
 
 // Undoes what has these names, the last of them first; or redoes it.
 fn turn(site: &mut Site, names: &[Name], redo: bool, released: &mut Vec<Release>) -> Run
-    ensures run { IsRun (turns redo names.now) (at site.old released.old.items) result (at site.new released.new.items) }
+    ensures run { IsRun (turns redo names.now) (at site.old released.old.items) result
+        (at site.new released.new.items) }
     ensures within { result.made ≤ length names.now }
     ensures settled { IsSettled (state_of site.old) → result.end ≢ Err Stopped.Unsettled → IsSettled (state_of site.new) }
     ensures later { IsLater (state_of site.old) (state_of site.new) }

@@ -1,14 +1,8 @@
 -- What chunks show: the characters of one, and those from one on.
-use Rattle.std.specs.Prelude.{ℕ, ◌==◌, List, [], ◌∷◌, drop, slice_index_or, if◌then◌else◌}
+use Rattle.std.specs.Prelude.{ℕ, List, [], drop, slice_index_or}
 use Rattle.ttf_form.specs.Cells.{cell_shown, chars_where}
 use Rattle.tombstone_text.specs.Cells.{CellsData}
 use Rattle.tombstone_text.specs.Chunks.{flat, joined}
-
--- the characters that stand beside a flag that is 1
-abbrev pub flagged : List ℕ → List ℕ → List ℕ
-flagged [] ts = []
-flagged (f ∷ fs) [] = []
-flagged (f ∷ fs) (t ∷ ts) = if f == 1 then t ∷ flagged fs ts else flagged fs ts
 
 -- the characters of the shown cells of a chunk
 abbrev pub shown_at : CellsData → ℕ → List ℕ

@@ -22,5 +22,6 @@ push_flagged-requires c =
 
 pub returns-clause-ok : goal.returns-clause-ok
 returns-clause-ok c =
-    chunk_written c.args.cells.now c.args.i c.args.skipped c.args.count c.chunk_flags.result.now c.chunk_text.result.now c.args.out.now.items
+    chunk_written c.args.cells.now c.args.i c.args.skipped c.args.count c.chunk_flags.result.now c.chunk_text.result.now
+    c.args.out.now.items
     c.push_flagged.new.out.items c.push_flagged.result c.chunk_flags.ensures.flags c.chunk_text.ensures c.push_flagged.ensures.ok

@@ -48,4 +48,5 @@ pub returns-clause-ok : goal.returns-clause-ok
 returns-clause-ok c =
     ended c.args.out.now.items (rest_of c.args.flags.now c.args.text.now 0 c.args.skipped c.args.count) c.loop-at.out.items _
     c.loop-at.invariant
-    (chunk_ended c.args.flags.now c.args.text.now c.loop-at.at c.loop-at.before c.loop-at.left (let t = c.loop-at-test.false in omega arith))
+    (chunk_ended c.args.flags.now c.args.text.now c.loop-at.at c.loop-at.before c.loop-at.left
+    (let t = c.loop-at-test.false in omega arith))

@@ -25,7 +25,8 @@ loop-i-preserved c =
     (rest_from t c.loop-i.i c.loop-i.before c.loop-i.left) c.push_chunk.new.out.items
     (encode_utf8_all (range_of c.loop-i.before c.loop-i.left (shown_at t c.loop-i.i))) _ c.loop-i.invariant
     (passed_chunk t c.loop-i.i c.known.ensures.beside lt c.loop-i.before c.loop-i.left c.chunk_shown-shown.result
-    c.chunk_shown-shown.ensures ∙ (λ j. encode_utf8_all (range_of c.loop-i.before c.loop-i.left (shown_at t c.loop-i.i)) ++ rest_from t (c.loop-i.i + 1) (sym c.saturating_sub-before.ensures j) (sym left j)))
+    c.chunk_shown-shown.ensures ∙ (λ j. encode_utf8_all (range_of c.loop-i.before c.loop-i.left (shown_at t c.loop-i.i))
+    ++ rest_from t (c.loop-i.i + 1) (sym c.saturating_sub-before.ensures j) (sym left j)))
     c.in_ok-push_chunk.ensures.ok
 
 pub returns-then-left-eq0-clause-ok : goal.returns-then-left-eq0-clause-ok

@@ -6,7 +6,8 @@ use Rattle.site_ranges.proofs.generations.generation_of.Goals as goal
 pub returns-then-contains-clause-none : goal.returns-then-contains-clause-none
 returns-then-contains-clause-none c =
     let known =
-    known_by c.args.site.now.history c.vector-have.result.now.set (Original c.args.name.now) c.known.ensures.history c.vector-have.ensures in (
+    known_by c.args.site.now.history c.vector-have.result.now.set (Original c.args.name.now) c.known.ensures.history
+    c.vector-have.ensures in (
       λ none. absurd (true≢false none),
       λ unknown. sym c.if-contains.true ∙ c.contains.ensures ∙ known ∙ unknown,
     )
@@ -14,7 +15,8 @@ returns-then-contains-clause-none c =
 pub returns-else-contains-clause-none : goal.returns-else-contains-clause-none
 returns-else-contains-clause-none c =
     let known =
-    known_by c.args.site.now.history c.vector-have.result.now.set (Original c.args.name.now) c.known.ensures.history c.vector-have.ensures in (
+    known_by c.args.site.now.history c.vector-have.result.now.set (Original c.args.name.now) c.known.ensures.history
+    c.vector-have.ensures in (
       λ none. sym known ∙ sym c.contains.ensures ∙ c.if-contains.false,
       λ unknown. refl,
     )

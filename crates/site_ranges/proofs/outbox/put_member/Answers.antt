@@ -31,5 +31,6 @@ returns-clause-ok c =
     let q = data_of c.in-Some-op.op.now in
     on_ok_weaker c.encode2.result
     (λ is o there named. is ∙ ap (λ (x : OpData). c.args.out.now.items ++ frame Two x)
-    (one_there os c.in-Some.place c.args.member.now q o c.known.ensures.valid (sym c.in-Some-op.ensures) c.in-Some.ensures.place there named))
+    (one_there os c.in-Some.place c.args.member.now q o c.known.ensures.valid (sym c.in-Some-op.ensures) c.in-Some.ensures.place there
+    named))
     c.encode2.ensures.ok

@@ -39,7 +39,8 @@ loop-left-preserved c =
           Runs (turns c.args.redo (originals_at h (c.args.from + (left - 1)) (c.args.count - (left - 1)))) p end q) ended went;
       few = omega (arith, inv.few, c.turn_at-run.ensures.within, c.loop-left-test.true);
       settled = λ was. c.turn_at-run.ensures.settled (inv.settled was) (λ half. cc);
-      later = later_on (state_of c.args.site.now) (state_of c.loop-left.site) (state_of c.turn_at-run.new.site) inv.later c.turn_at-run.ensures.later;
+      later = later_on (state_of c.args.site.now) (state_of c.loop-left.site) (state_of c.turn_at-run.new.site) inv.later
+          c.turn_at-run.ensures.later;
     }
 
 pub returns-then-is_err-clause-run : goal.returns-then-is_err-clause-run
