@@ -56,10 +56,10 @@ typedef uint32_t cotpad_status;
 #define COTPAD_NUMBER_FULL 9u     /* the site has made 1,000,000 inserts and deletes */
 #define COTPAD_CONTEXT_FULL 10u   /* more than 16,384 inserts and deletes were undone */
 #define COTPAD_NO_NAME 11u        /* a site above 1,023, or a number that is 0 or above 1,000,000 */
-#define COTPAD_NONE 12u           /* there is none: no operation at this index, none to release, no character at this place, no undo of
-                                   * this name; or, of calls that take the operations before or from an index, or a range of them, the
+#define COTPAD_NONE 12u           /* there is none: no operation at this index, none to release, no character at this place or of this anchor,
+                                   * no undo of this name; or, of calls that take the operations before or from an index, or a range of them, the
                                    * history has fewer */
-#define COTPAD_TOO_SHORT 13u      /* the buffer is too short: *needed says how many bytes, or changes, it takes */
+#define COTPAD_TOO_SHORT 13u      /* the buffer is too short: *needed says how many bytes, changes or names it takes */
 
 /* Of the bytes of a log or of a message of an exchange; then a verdict says where, and why. */
 #define COTPAD_TOO_LONG 14u  /* more than 67,108,864 bytes; nothing is written. Of cotpad_save, the log would be as long */
@@ -101,6 +101,22 @@ typedef struct {
     uint32_t removed;
     uint32_t inserted;
 } cotpad_change;
+
+/* Where an anchor is: at the front or the end of the text; or behind or in front of a character. */
+#define COTPAD_ANCHOR_START 1u
+#define COTPAD_ANCHOR_END 2u
+#define COTPAD_ANCHOR_AFTER 3u
+#define COTPAD_ANCHOR_BEFORE 4u
+
+/* A place that stays beside a character while others edit. The character is the one at `offset`, from 0, in the text of the insert of the
+ * name `site` and `number`, which all sites call so: a host may send an anchor to another site, or keep it beside a log. Of
+ * COTPAD_ANCHOR_START and COTPAD_ANCHOR_END the other fields are 0. */
+typedef struct {
+    uint32_t kind;
+    uint32_t site;
+    uint32_t number;
+    uint32_t offset;
+} cotpad_anchor;
 
 /* What an operation is. */
 #define COTPAD_OPERATION_INSERT 1u
@@ -172,6 +188,10 @@ COTPAD_LAYOUT(offsetof(cotpad_count, count) == 4);
 COTPAD_LAYOUT(sizeof(cotpad_change) == 12);
 COTPAD_LAYOUT(offsetof(cotpad_change, removed) == 4);
 COTPAD_LAYOUT(offsetof(cotpad_change, inserted) == 8);
+COTPAD_LAYOUT(sizeof(cotpad_anchor) == 16);
+COTPAD_LAYOUT(offsetof(cotpad_anchor, site) == 4);
+COTPAD_LAYOUT(offsetof(cotpad_anchor, number) == 8);
+COTPAD_LAYOUT(offsetof(cotpad_anchor, offset) == 12);
 COTPAD_LAYOUT(sizeof(cotpad_operation) == 28);
 COTPAD_LAYOUT(offsetof(cotpad_operation, author) == 4);
 COTPAD_LAYOUT(offsetof(cotpad_operation, scalar) == 8);
@@ -267,6 +287,21 @@ uint32_t cotpad_characters(cotpad_site *site);
  * redo take the site and number. Else COTPAD_NONE: *name and *offset are as they were. */
 cotpad_status cotpad_name_at(cotpad_site *site, uint32_t place, cotpad_member *name, uint32_t *offset);
 
+/* The anchor of the place after so many shown characters: a cursor that stays where it belongs while others edit. The left one keeps to
+ * the character in front of the place, or to the front of the text where there is none, and what is inserted at the place comes behind
+ * it; the right one keeps to the character behind it, or to the end of the text. Each costs what cotpad_name_at does, whatever the
+ * history. Else COTPAD_PLACE_OUT: *anchor is as it was. */
+cotpad_status cotpad_anchor_left(cotpad_site *site, uint32_t place, cotpad_anchor *anchor);
+cotpad_status cotpad_anchor_right(cotpad_site *site, uint32_t place, cotpad_anchor *anchor);
+
+/* How many shown characters stand before the anchor. While its character is hidden, it has a place as well: between the characters that
+ * are shown before and behind it; and the character's own again once that is shown again. It costs a short step for each operation that
+ * the site integrated since the insert of the character, and a look at each chunk of 512 characters, hidden ones too, up to it. Of
+ * COTPAD_ANCHOR_START and COTPAD_ANCHOR_END nothing but the kind is looked at. Else COTPAD_NO_NAME, where the kind or the name is out of
+ * its range, or the offset above 255; or COTPAD_NONE, where the site has no such character, as before its insert is integrated: *place is
+ * as it was. */
+cotpad_status cotpad_anchor_place(cotpad_site *site, const cotpad_anchor *anchor, uint32_t *place);
+
 /* How often the insert or delete of this name was undone and redone: its generation, which is odd while it is undone, and even, from
  * 0 on, while it is in force. It costs a search among the undone names, whatever the history. Else COTPAD_NO_NAME, or COTPAD_UNKNOWN
  * where the site hasn't it: *generation is as it was. */
@@ -276,6 +311,12 @@ cotpad_status cotpad_generation(cotpad_site *site, uint32_t name_site, uint32_t 
  * whose operation came here first, since the others are repeats of it; so two sites may be told two authors. It costs what
  * cotpad_generation does. Else COTPAD_NO_NAME, or COTPAD_NONE where nobody undid it: *author is as it was. */
 cotpad_status cotpad_undoer(cotpad_site *site, uint32_t name_site, uint32_t number, uint32_t *author);
+
+/* The inserts by which `count` shown characters from the one at `place` on stand there, in the order of the text, each at generation 0:
+ * what an undo of a selection takes. Neighbours of one insert are told once; an insert comes again where others' characters stand within
+ * it. *needed is how many there are, and `room` counts these too. It costs for each character what cotpad_name_at does. Else
+ * COTPAD_TOO_SHORT, which writes *needed alone; COTPAD_PLACE_OUT, where the characters aren't all there; or COTPAD_NO_MEMORY. */
+cotpad_status cotpad_names(cotpad_site *site, uint32_t place, uint32_t count, cotpad_member *out, size_t room, size_t *needed);
 
 /* What the integrated operation at this index is, and who made it. Operations stand in the order of integration, from 0,
  * so what was done last stands at cotpad_operations(site) - 1. Else COTPAD_NONE. */
@@ -342,12 +383,13 @@ cotpad_status cotpad_text_range(cotpad_site *site, uint32_t place, uint32_t coun
  * shows. A host that keeps a text of its own, such as the lines of a window, asks cotpad_operations before each call that can change the
  * site, and makes these changes in its text after it: one after the other, from left to right, each at its place in what those before
  * it left. At `place`, `removed` characters go, and `inserted` come in: those that cotpad_text_range(site, place, inserted, ..) hands out
- * now, since nothing left of them changes any more. No character that stays is taken away or comes in, no change is empty, and between
- * what one lets come in and the place of the next a character stands; so there is one such list alone, and none where nothing changed.
- * *needed is the number of changes, and `room` counts changes too. Else COTPAD_TOO_SHORT, which writes *needed alone; COTPAD_NONE, where
- * the history has fewer operations; or COTPAD_NO_MEMORY. The call only reads: whatever it answers, it may be made again, also later,
- * for all changes since then. It costs a step for each operation since then, and a look at each character that was ever inserted, shown
- * or not, and at its deletes. */
+ * now, since nothing on their left changes any more. No character that stays goes or comes in, no change is empty, and between what one
+ * lets come in and the place of the next a character stands that stays; where nothing changed there is none. *needed is the number of
+ * changes, and `room` counts changes too. Else COTPAD_TOO_SHORT, which writes *needed alone; COTPAD_NONE, where the history has fewer
+ * operations; or COTPAD_NO_MEMORY. The call only reads: whatever it answers, it may be made again, also later, for all changes since
+ * then. It costs a pass over the counts of sites and the undone names, and, after few operations, by the characters that these brought,
+ * took away, undid or redid, and a step for each 512 that were ever inserted; after many, a look at each of these, shown or not, and
+ * at its deletes. */
 cotpad_status cotpad_changes(cotpad_site *site, uint32_t from, cotpad_change *out, size_t room, size_t *needed);
 
 /* The text that the operations before this index of the history show, in UTF-8: the empty one at 0, and the present one at

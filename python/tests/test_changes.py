@@ -408,6 +408,20 @@ def test_of_two_who_undo_at_once_each_site_names_the_one_it_heard_of_first(sites
     assert [it.generation((0, 1)) for it in sites] == [1, 1, 1]
 
 
+def test_the_inserts_of_a_selection(sites):
+    ann, bob = sites[:2]
+    send(ann.insert(0, "abcd"), bob)
+    send(bob.insert(2, "xy"), ann)
+    send(ann.insert(6, "!"), bob)
+    assert ann.text == "abxycd!"
+    assert ann.inserts(0, 7) == [(0, 1), (1, 1), (0, 1), (0, 2)]
+    assert ann.inserts(2, 4) == [(1, 1)] and ann.inserts(3, 3) == ann.inserts(5, 1) == []
+    for start, stop in ((6, 8), (8, 8), (-1, 2)):
+        assert status_of(ann.inserts, start, stop) is Status.PLACE_OUT
+    typed(ann, 7, "0123456789")
+    assert ann.inserts(6, 17) == [(0, number) for number in range(2, 13)]
+
+
 # ---- ranges of the history
 
 

@@ -359,6 +359,20 @@ static void shows_within(cotpad_site *site, const char *text) {
     if (cotpad_text_range(site, 1, 0, out, 0, &count) != COTPAD_OK || count != 0) stop("no character takes memory");
 }
 
+/* What is shown stands there by 0.1, 0.2 and again 0.1; a refused call has told none of it. */
+static void named(cotpad_site *site) {
+    static const cotpad_member wanted[] = {{0, 1, 0}, {0, 2, 0}, {0, 1, 0}};
+    cotpad_member out[3] = {{7, 7, 7}, {7, 7, 7}, {7, 7, 7}};
+    size_t count = 7;
+    cotpad_status answer = cotpad_names(site, 0, cotpad_characters(site), out, 3, &count);
+    if (answer == COTPAD_NO_MEMORY) {
+        again++;
+        if (count != 7 || out[0].site != 7) stop("a refused call told a name");
+        answer = cotpad_names(site, 0, cotpad_characters(site), out, 3, &count);
+    }
+    if (answer != COTPAD_OK || count != 3 || memcmp(out, wanted, sizeof wanted) != 0) stop("other names");
+}
+
 /* All frames, from an index on or but for a set that has the first ones, bring another site to the same text. */
 static void sent(cotpad_site *from, cotpad_site *to) {
     static const cotpad_count two[] = {{0, 2}};
@@ -391,6 +405,7 @@ static void views(void) {
     changed(here, 1, cut, 1);
     changed(here, 3, none, 0);
     shows_within(here, "xyc");
+    named(here);
     turn(here, 0, 0, 1, 1);
     shows(here, "xy");
     changed(here, 3, back, 2);

@@ -1,3 +1,4 @@
+pub mod Anchors
 pub mod Changes
 pub mod Exchanges
 pub mod Handles

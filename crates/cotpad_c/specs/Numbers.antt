@@ -45,6 +45,13 @@ pub record AreOperationKinds : Type 0 where
   pub undo : kind.UNDO ≡ 3
   pub redo : kind.REDO ≡ 4
 
+-- where an anchor is
+pub record AreAnchorKinds : Type 0 where
+  pub start : kind.START ≡ 1
+  pub end : kind.END ≡ 2
+  pub after : kind.AFTER ≡ 3
+  pub before : kind.BEFORE ≡ 4
+
 -- what became of a delivery or a release
 pub record AreVerdictKinds : Type 0 where
   pub integrated : kind.INTEGRATED ≡ 1
@@ -74,5 +81,6 @@ pub record AreTheNumbers : Type 0 where
   pub version : VERSION ≡ 4
   pub statuses : AreStatuses
   pub operations : AreOperationKinds
+  pub anchors : AreAnchorKinds
   pub verdicts : AreVerdictKinds
   pub limits : AreLimits

@@ -1,5 +1,6 @@
 -- Operations as a host reads them.
 use Rattle.std.specs.Prelude.{ℕ, List, [], ◌∷◌, length, encode_utf8_all, if◌then◌else◌}
+use Rattle.op_name.specs.NameData.{NameData}
 use Rattle.op_name.specs.declared.member.Member.{Member}
 use Rattle.op_name.specs.declared.member.Member.TheVariants.{Original, Group}
 use Rattle.op_name.specs.Members.{is_even}
@@ -20,6 +21,10 @@ no_operation = record { kind = 0; author = 0; scalar = 0; characters = 0; member
 abbrev pub member_told : Member → CotpadMember
 member_told (Original n) = record { site = n.site; number = n.number; generation = 0 }
 member_told (Group n g) = record { site = n.site; number = n.number; generation = g }
+
+-- an insert or a delete
+abbrev pub original_told : NameData → CotpadMember
+original_told n = member_told (Original n)
 
 -- a site, and no name of it: numbers begin with 1
 abbrev pub site_told : ℕ → CotpadMember

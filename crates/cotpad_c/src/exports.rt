@@ -1,6 +1,6 @@
 //! What a host calls.
 
-ghost use Rattle.std.specs.Prelude.{◌≡◌, ◌≢◌, ◌⊎◌, ◌↔◌, ◌+◌, ◌<◌, ◌≤◌, ℕ, [], IsSome, IsSomeAnd, IsUtf8, Some, None, chars, drop, false, length, min, slice_get, take, true};
+ghost use Rattle.std.specs.Prelude.{◌≡◌, ◌≢◌, ◌⊎◌, ◌↔◌, ◌+◌, ◌<◌, ◌≤◌, ℕ, [], IsSome, IsSomeAnd, IsUtf8, Some, None, chars, drop, false, length, map, min, slice_get, take, true};
 ghost use Rattle.std.specs.Char.{IsScalar};
 ghost use Rattle.op_name.specs.NameData.{NameData, IsName};
 ghost use Rattle.op_name.specs.declared.name.TheConstants.{SITES};
@@ -26,13 +26,18 @@ ghost use Rattle.peer_exchange.specs.declared.messages.Which.TheVariants.{First}
 ghost use Rattle.peer_exchange.specs.Messages.{first_message};
 ghost use Rattle.peer_exchange.specs.Refusals.{IsUnread};
 ghost use Rattle.peer_exchange.specs.Closing.{IsFinished, IsUnclosed, IsUnfinished};
+ghost use Rattle.site_anchors.specs.declared.anchors.Anchor.{Anchor};
+ghost use Rattle.site_anchors.specs.declared.anchors.Side.TheVariants.{Left, Right};
+ghost use Rattle.site_anchors.specs.Anchors.{anchors_of, place_told};
 ghost use Rattle.site_ranges.specs.Frames.{frames_of, lacked_by};
+ghost use Rattle.site_ranges.specs.Inserts.{names_at};
 ghost use Rattle.site_ranges.specs.Ranges.{text_at};
 ghost use Rattle.site_ranges.specs.Undoers.{IsLastUndoer};
 ghost use Rattle.participant.specs.Reached.{from, all_settled, IsHalfSettled};
 ghost use Rattle.cotpad_c.specs.declared.status.TheConstants.{OK, NO_MEMORY, SITE_OUT, PLACE_OUT, NO_CHARACTER, UNKNOWN, NO_NAME, NONE, TOO_SHORT, TOO_LONG, UNSETTLED, NO_SET};
 ghost use Rattle.cotpad_c.specs.declared.exports.TheConstants.{VERSION};
-ghost use Rattle.cotpad_c.specs.Operations.{member_told, operation_told, text_told};
+ghost use Rattle.cotpad_c.specs.Operations.{member_told, operation_told, original_told, text_told};
+ghost use Rattle.cotpad_c.specs.Anchors.{anchor_told, anchor_given};
 ghost use Rattle.cotpad_c.specs.Changes.{WroteChanges};
 ghost use Rattle.cotpad_c.specs.Hosting.{hosting};
 ghost use Rattle.cotpad_c.specs.Exchanges.{Answers, Closes};
@@ -45,16 +50,21 @@ ghost use Rattle.cotpad_c.specs.Statuses.{Did, IsMade, Wrote};
 ghost use Rattle.cotpad_c.specs.Verdicts.{of_member, answered, received, IsHalfReceived, IsReleased};
 ghost use Rattle.cotpad_c.specs.Held.{fresh, held, held_site, held_state, held_releases, held_reached};
 
+use crate::anchors::CotpadAnchor;
 use crate::changes::CotpadChange;
 use crate::handle::CotpadSite;
 use crate::operation::{CotpadCount, CotpadMember, CotpadOperation};
 use crate::refusals::log_refused;
 use crate::status::{NO_MEMORY, OK, SITE_OUT, TOO_LONG};
 use crate::verdict::CotpadVerdict;
-use crate::{changes, edits, exchange, frames, making, pasts, reading, receiving, runs, turns};
+use crate::{
+    anchors, changes, edits, exchange, frames, making, pasts, ranges, reading, receiving, runs,
+    turns,
+};
 use op_name::SITES;
 use peer_exchange::MAX_MESSAGE;
 use session_log::MAX_LOG;
+use site_anchors::Side;
 use std::alloc::Global;
 use std::mem::replace;
 
@@ -357,6 +367,78 @@ pub extern "C" fn cotpad_name_at(
     reading::name_at(site.inner().site(), place, name, offset)
 }
 
+/// The inserts by which so many shown characters from a place on stand in the text, in its order, neighbours of one insert once.
+#[unsafe(no_mangle)]
+pub extern "C" fn cotpad_names(
+    alloc: Global,
+    site: &mut CotpadSite,
+    place: u32,
+    count: u32,
+    out: &mut [CotpadMember],
+    needed: &mut usize,
+) -> u32
+    requires { IsSome site.old.site }
+    ensures wrote { place + count ≤ length (shown (held_site site.old.site).history) → (result ≡ NO_MEMORY)
+        ⊎ Wrote result (map original_told (names_at (held_site site.old.site).history place count)) out.old out.new needed.new }
+    ensures past { length (shown (held_site site.old.site).history) < place + count
+        → (result ≡ PLACE_OUT) × (out.new ≡ out.old) × (needed.new ≡ needed.old) }
+    ensures needed { result ≡ NO_MEMORY → 1 ≤ count }
+    ensures err { result ≡ NO_MEMORY → (out.new ≡ out.old) × (needed.new ≡ needed.old) }
+    ensures same { site.new.site ≡ site.old.site }
+{
+    ranges::names(alloc, site.inner().site(), place, count, out, needed)
+}
+
+/// The anchor of the place after so many shown characters, which keeps to the character in front of it, or to the front of the text.
+#[unsafe(no_mangle)]
+pub extern "C" fn cotpad_anchor_left(
+    site: &mut CotpadSite,
+    place: u32,
+    anchor: &mut CotpadAnchor,
+) -> u32
+    requires { IsSome site.old.site }
+    ensures found { (a : Anchor) → slice_get (anchors_of (held_site site.old.site).history Left) place ≡ Some a
+        → (result ≡ OK) × (anchor.new ≡ anchor_told a) }
+    ensures past { length (shown (held_site site.old.site).history) < place → (result ≡ PLACE_OUT) × (anchor.new ≡ anchor.old) }
+    ensures same { site.new.site ≡ site.old.site }
+{
+    anchors::anchor_at(site.inner().site(), place, Side::Left, anchor)
+}
+
+/// The anchor of the place that keeps to the character behind it, or to the end of the text.
+#[unsafe(no_mangle)]
+pub extern "C" fn cotpad_anchor_right(
+    site: &mut CotpadSite,
+    place: u32,
+    anchor: &mut CotpadAnchor,
+) -> u32
+    requires { IsSome site.old.site }
+    ensures found { (a : Anchor) → slice_get (anchors_of (held_site site.old.site).history Right) place ≡ Some a
+        → (result ≡ OK) × (anchor.new ≡ anchor_told a) }
+    ensures past { length (shown (held_site site.old.site).history) < place → (result ≡ PLACE_OUT) × (anchor.new ≡ anchor.old) }
+    ensures same { site.new.site ≡ site.old.site }
+{
+    anchors::anchor_at(site.inner().site(), place, Side::Right, anchor)
+}
+
+/// How many shown characters stand before the anchor, also where its character is hidden.
+#[unsafe(no_mangle)]
+pub extern "C" fn cotpad_anchor_place(
+    site: &mut CotpadSite,
+    anchor: &CotpadAnchor,
+    place: &mut u32,
+) -> u32
+    requires { IsSome site.old.site }
+    ensures found { (a : Anchor) (v : ℕ) → anchor_given anchor.now ≡ Some a
+        → place_told (held_site site.old.site).history a ≡ Some v → (result ≡ OK) × (place.new ≡ v) }
+    ensures none { (a : Anchor) → anchor_given anchor.now ≡ Some a
+        → place_told (held_site site.old.site).history a ≡ None → (result ≡ NONE) × (place.new ≡ place.old) }
+    ensures no_name { anchor_given anchor.now ≡ None → (result ≡ NO_NAME) × (place.new ≡ place.old) }
+    ensures same { site.new.site ≡ site.old.site }
+{
+    anchors::place_of(site.inner().site(), anchor, place)
+}
+
 /// What the integrated operation at this index is, and who made it. They stand in the order of integration, from 0.
 #[unsafe(no_mangle)]
 pub extern "C" fn cotpad_operation_at(
@@ -563,7 +645,7 @@ pub extern "C" fn cotpad_text_range(
     ensures err { result ≡ NO_MEMORY → (out.new ≡ out.old) × (needed.new ≡ needed.old) }
     ensures same { site.new.site ≡ site.old.site }
 {
-    reading::text_range(alloc, site.inner().site(), place, count, out, needed)
+    ranges::text_range(alloc, site.inner().site(), place, count, out, needed)
 }
 
 /// By what the shown text changed since the history had so many operations: changes from left to right, each in what those before it

@@ -1,4 +1,4 @@
-//! The numbers by which a host is told what an operation is, and what became of a delivery.
+//! The numbers by which a host is told what an operation or an anchor is, and what became of a delivery.
 
 /// An operation that inserts a text.
 pub const INSERT: u32 = 1;
@@ -11,6 +11,18 @@ pub const UNDO: u32 = 3;
 
 /// An operation that redoes an insert or a delete.
 pub const REDO: u32 = 4;
+
+/// An anchor at the front of the text.
+pub const START: u32 = 1;
+
+/// An anchor at the end of the text.
+pub const END: u32 = 2;
+
+/// An anchor behind a character.
+pub const AFTER: u32 = 3;
+
+/// An anchor in front of a character.
+pub const BEFORE: u32 = 4;
 
 /// It is part of the site's history now.
 pub const INTEGRATED: u32 = 1;

@@ -8,6 +8,7 @@
 //! had memory enough is settled between them, and what is saved is loaded again.
 #![tactic(auto)]
 
+mod anchors;
 mod cause;
 mod changes;
 mod edits;
@@ -22,6 +23,7 @@ mod making;
 mod operation;
 mod parts;
 mod pasts;
+mod ranges;
 mod reading;
 mod receiving;
 mod refusals;

@@ -1,6 +1,6 @@
 //! What a site shows and has, as bytes in a buffer of the host's.
 
-ghost use Rattle.std.specs.Prelude.{◌≡◌, ◌≢◌, ◌⊎◌, ◌+◌, ◌<◌, ◌≤◌, ◌↔◌, IsTrue, Some, None, length, option_map, slice_get, take};
+ghost use Rattle.std.specs.Prelude.{◌≡◌, ◌≢◌, ◌⊎◌, ◌<◌, ◌≤◌, ◌↔◌, IsTrue, Some, None, length, option_map, slice_get, take};
 ghost use Rattle.op_name.specs.declared.member.Member.TheVariants.{Original};
 ghost use Rattle.context_diff.specs.Operations.{OpData};
 ghost use Rattle.context_diff.specs.Ops.{data_of};
@@ -10,17 +10,16 @@ ghost use Rattle.wire_codec.specs.declared.version.Version.TheVariants.{Two};
 ghost use Rattle.wire_codec.specs.Spelling.{frame};
 ghost use Rattle.cot_site.specs.Sites.{state_of};
 ghost use Rattle.cot_site.specs.States.{IsSettled};
-ghost use Rattle.site_ranges.specs.Ranges.{text_at};
 ghost use Rattle.session_log.specs.declared.reading.TheConstants.{MAX_LOG};
 ghost use Rattle.session_log.specs.Logs.{log_of};
-ghost use Rattle.cotpad_c.specs.declared.status.TheConstants.{OK, NO_MEMORY, PLACE_OUT, NONE, TOO_SHORT, TOO_LONG, UNSETTLED};
+ghost use Rattle.cotpad_c.specs.declared.status.TheConstants.{OK, NO_MEMORY, NONE, TOO_SHORT, TOO_LONG, UNSETTLED};
 ghost use Rattle.cotpad_c.specs.Operations.{member_told, operation_told, text_told};
 ghost use Rattle.cotpad_c.specs.Saving.{Loads};
 ghost use Rattle.cotpad_c.specs.Statuses.{Wrote};
 
 use crate::operation::{CotpadMember, CotpadOperation, member_told, operation_told};
 use crate::spelling::hand_out_spelled;
-use crate::status::{NO_MEMORY, NONE, OK, PLACE_OUT, TOO_LONG, TOO_SHORT, UNSETTLED};
+use crate::status::{NO_MEMORY, NONE, OK, TOO_LONG, TOO_SHORT, UNSETTLED};
 use context_diff::Op;
 use cot_site::{Site, settled_states_have_none_ready};
 use op_name::Member;
@@ -51,32 +50,6 @@ pub(crate) fn text(alloc: Global, site: &Site, out: &mut [u8], needed: &mut usiz
 {
     let mut bytes = Vec::new(alloc);
     match site.text(&mut bytes) {
-        Ok(()) => hand_out(bytes.as_slice(), out, needed),
-        Err(_) => NO_MEMORY,
-    }
-}
-
-/// The text of so many shown characters from a place on, in UTF-8.
-pub(crate) fn text_range(
-    alloc: Global,
-    site: &Site,
-    place: u32,
-    count: u32,
-    out: &mut [u8],
-    needed: &mut usize,
-) -> u32
-    ensures wrote { place + count ≤ length (shown site.now.history)
-        → (result ≡ NO_MEMORY) ⊎ Wrote result (text_at site.now.history place count) out.old out.new needed.new }
-    ensures past { length (shown site.now.history) < place + count
-        → (result ≡ PLACE_OUT) × (out.new ≡ out.old) × (needed.new ≡ needed.old) }
-    ensures needed { result ≡ NO_MEMORY → 1 ≤ count }
-    ensures err { result ≡ NO_MEMORY → (out.new ≡ out.old) × (needed.new ≡ needed.old) }
-{
-    if u64::from(site.visible_len()) < u64::from(place) + u64::from(count) {
-        return PLACE_OUT;
-    }
-    let mut bytes = Vec::new(alloc);
-    match site_ranges::write_range(site, place, count, &mut bytes) {
         Ok(()) => hand_out(bytes.as_slice(), out, needed),
         Err(_) => NO_MEMORY,
     }

@@ -2,6 +2,7 @@
 
 ghost use Rattle.std.specs.Prelude.{IfOk, IsSome};
 
+use crate::anchors::CotpadAnchor;
 use crate::changes::CotpadChange;
 use crate::handle::CotpadSite;
 use crate::operation::{CotpadCount, CotpadMember, CotpadOperation, no_member, no_operation};
@@ -28,6 +29,7 @@ fn structs_are_as_long_as_the_header_says(rt: HostRuntime) {
     assert_eq!(rt; size_of::<CotpadOperation>(), 28);
     assert_eq!(rt; size_of::<CotpadVerdict>(), 68);
     assert_eq!(rt; size_of::<CotpadChange>(), 12);
+    assert_eq!(rt; size_of::<CotpadAnchor>(), 16);
     assert_eq!(rt; size_of::<CotpadSite>(), 8);
 }
 
@@ -348,6 +350,36 @@ fn the_name_at_a_place_is_that_of_the_insert(rt: HostRuntime) -> Result<(), Fail
 }
 
 #[test]
+fn the_inserts_of_a_range_are_told(rt: HostRuntime) -> Result<(), Fail> {
+    let alloc = rt.alloc();
+    let mut made = 9;
+    let mut needed = 9;
+    let mut told = [no_member(), no_member()];
+    let mut site = opened(alloc)?;
+    // Insert 5.1 of abc, and 5.2 of x behind its c.
+    assert_eq!(rt;
+        exports::cotpad_insert_text(alloc, &mut site, 0, b"abc", &mut made),
+        status::OK
+    );
+    assert_eq!(rt; exports::cotpad_insert(&mut site, 3, 120), status::OK);
+    assert_eq!(rt;
+        exports::cotpad_names(alloc, &mut site, 1, 3, &mut told, &mut needed),
+        status::OK
+    );
+    assert_eq!(rt; needed, 2);
+    assert_eq!(rt; told[0].number, 1);
+    assert_eq!(rt; told[1].site, 5);
+    assert_eq!(rt; told[1].number, 2);
+    assert_eq!(rt;
+        exports::cotpad_names(alloc, &mut site, 2, 3, &mut told, &mut needed),
+        status::PLACE_OUT
+    );
+    exports::cotpad_close(alloc, &mut site);
+    site.let_go();
+    Ok(())
+}
+
+#[test]
 fn a_text_of_the_past_is_handed_out(rt: HostRuntime) -> Result<(), Fail> {
     let alloc = rt.alloc();
     let mut needed = 9;
@@ -472,6 +504,56 @@ fn what_changed_is_told_and_read(rt: HostRuntime) -> Result<(), Fail> {
     );
     assert_eq!(rt;
         exports::cotpad_changes(alloc, &mut site, 4, &mut told, &mut needed),
+        status::NONE
+    );
+    exports::cotpad_close(alloc, &mut site);
+    site.let_go();
+    Ok(())
+}
+
+#[test]
+fn an_anchor_keeps_to_a_character(rt: HostRuntime) -> Result<(), Fail> {
+    let alloc = rt.alloc();
+    let mut place = 9;
+    let mut anchor = CotpadAnchor {
+        kind: 9,
+        site: 9,
+        number: 9,
+        offset: 9,
+    };
+    let mut site = opened(alloc)?;
+    assert_eq!(rt; exports::cotpad_insert(&mut site, 0, 97), status::OK);
+    assert_eq!(rt;
+        exports::cotpad_anchor_right(&mut site, 2, &mut anchor),
+        status::PLACE_OUT
+    );
+    assert_eq!(rt;
+        exports::cotpad_anchor_place(&mut site, &anchor, &mut place),
+        status::NO_NAME
+    );
+    assert_eq!(rt;
+        exports::cotpad_anchor_right(&mut site, 1, &mut anchor),
+        status::OK
+    );
+    assert_eq!(rt; anchor.kind, kinds::END);
+    assert_eq!(rt;
+        exports::cotpad_anchor_left(&mut site, 1, &mut anchor),
+        status::OK
+    );
+    assert_eq!(rt; anchor.kind, kinds::AFTER);
+    assert_eq!(rt; anchor.site, 5);
+    assert_eq!(rt; anchor.number, 1);
+    assert_eq!(rt; anchor.offset, 0);
+    assert_eq!(rt; exports::cotpad_insert(&mut site, 0, 98), status::OK);
+    assert_eq!(rt; exports::cotpad_undo(&mut site, 5, 1), status::OK);
+    assert_eq!(rt;
+        exports::cotpad_anchor_place(&mut site, &anchor, &mut place),
+        status::OK
+    );
+    assert_eq!(rt; place, 1);
+    anchor.offset = 1;
+    assert_eq!(rt;
+        exports::cotpad_anchor_place(&mut site, &anchor, &mut place),
         status::NONE
     );
     exports::cotpad_close(alloc, &mut site);

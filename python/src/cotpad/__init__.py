@@ -26,10 +26,10 @@ from .errors import BadBytes, CotpadError, InUse, NoDocument, NoText, NotSaved, 
 from .site import Batch, History, Incoming, Site, exchange
 from .storage import write_safely
 from .undo import Undo
-from .values import Became, Cause, Change, Character, Delivered, Edit, Kind, Member, Name, Operation, Status
+from .values import Anchor, AnchorKind, Became, Cause, Change, Character, Delivered, Edit, Kind, Member, Name, Operation, Status
 
 __all__ = [
-    "BadBytes", "Batch", "Became", "Cause", "Change", "Character", "CotpadError", "Cursor", "Delivered", "Document", "Edit",
-    "History", "InUse", "Incoming", "Kind", "Member", "Name", "NoDocument", "NoText", "NotSaved", "NotTaken", "Operation", "Refused",
+    "Anchor", "AnchorKind", "BadBytes", "Batch", "Became", "Cause", "Change", "Character", "CotpadError", "Cursor", "Delivered",
+    "Document", "Edit", "History", "InUse", "Incoming", "Kind", "Member", "Name", "NoDocument", "NoText", "NotSaved", "NotTaken", "Operation", "Refused",
     "Site", "Status", "Undo", "Unsettled", "applied", "exchange", "to_delta", "write_safely",
 ]

@@ -26,6 +26,10 @@ class Change(ctypes.Structure):
     _fields_ = [(name, u32) for name in ("place", "removed", "inserted")]
 
 
+class Anchor(ctypes.Structure):
+    _fields_ = [(name, u32) for name in ("kind", "site", "number", "offset")]
+
+
 class Operation(ctypes.Structure):
     _fields_ = [*((name, u32) for name in ("kind", "author", "scalar", "characters")), ("member", Member)]
 
@@ -77,6 +81,7 @@ def _call(name: str, result: Any, *params: Any) -> Callable[..., int]:
 _site, _verdict, _needed = ctypes.POINTER(Handle), ctypes.POINTER(Verdict), ctypes.POINTER(size)
 _read, _out, _count = ctypes.c_void_p, ctypes.POINTER(byte), ctypes.POINTER(u32)
 _counts, _member, _changes = ctypes.POINTER(Count), ctypes.POINTER(Member), ctypes.POINTER(Change)
+_anchor = ctypes.POINTER(Anchor)
 
 version = _call("version", u32)
 if version() != VERSION:
@@ -98,6 +103,10 @@ operations = _call("operations", u32, _site)
 waiting = _call("waiting", u32, _site)
 characters = _call("characters", u32, _site)
 name_at = _call("name_at", u32, _site, u32, _member, _count)
+names = _call("names", u32, _site, u32, u32, _member, size, _needed)
+anchor_left = _call("anchor_left", u32, _site, u32, _anchor)
+anchor_right = _call("anchor_right", u32, _site, u32, _anchor)
+anchor_place = _call("anchor_place", u32, _site, _anchor, _count)
 operation_at = _call("operation_at", u32, _site, u32, ctypes.POINTER(Operation))
 operation_text = _call("operation_text", u32, _site, u32, _out, size, _needed)
 frame = _call("frame", u32, _site, u32, _out, size, _needed)

@@ -6,12 +6,12 @@ import errno
 import fcntl
 import os
 from collections.abc import Callable, Iterable, Iterator, Mapping
-from typing import BinaryIO, Optional
+from typing import BinaryIO, Literal, Optional
 
 from .errors import InUse, NoDocument, NotSaved, Refused, Unsettled
 from .site import Batch, History, Incoming, Site, Taken, Told
 from .storage import Path, write_safely
-from .values import Change, Character, Delivered, Edit, Operation
+from .values import Anchor, Change, Character, Delivered, Edit, Name, Operation
 
 HEAD = b"COTDOC1\n"
 
@@ -310,6 +310,14 @@ class Document:
         """What the operation at this index of the history is, and who made it."""
         return self._open.operation(index)
 
+    def anchor(self, place: int, side: Literal["left", "right"] = "left") -> Anchor:
+        """The anchor of the place after so many shown characters, which stays beside a character: see `Site.anchor`."""
+        return self._open.anchor(place, side)
+
+    def place_of(self, anchor: Anchor) -> Optional[int]:
+        """How many shown characters stand before an anchor: see `Site.place_of`."""
+        return self._open.place_of(anchor)
+
     def generation(self, name: tuple[int, int]) -> int:
         """How often this insert or delete was undone and redone: an odd number while it is undone."""
         return self._open.generation(name)
@@ -329,6 +337,10 @@ class Document:
     def names(self, start: int, stop: int) -> list[Character]:
         """The characters from place `start` on, and before `stop`."""
         return self._open.names(start, stop)
+
+    def inserts(self, start: int, stop: int) -> list[Name]:
+        """The inserts by which these characters stand there: see `Site.inserts`."""
+        return self._open.inserts(start, stop)
 
 
 def _locked(path: str) -> BinaryIO:

@@ -8,12 +8,12 @@ import warnings
 import weakref
 from collections.abc import Callable, Iterable, Iterator, Mapping, Sequence
 from pathlib import Path as PathOf
-from typing import Any, Optional, Protocol, Union, overload
+from typing import Any, Literal, Optional, Protocol, Union, overload
 
 from . import _library as lib
 from .errors import BadBytes, CotpadError, NoText, Refused, Unsettled, has_text, must, taken
 from .storage import Path, write_safely
-from .values import Became, Change, Character, Delivered, Edit, Kind, Member, Name, Operation, Status
+from .values import Anchor, AnchorKind, Became, Change, Character, Delivered, Edit, Kind, Member, Name, Operation, Status
 
 # A buffer for answers is kept up to this size.
 KEPT = 1 << 20
@@ -393,15 +393,9 @@ class Site:
         """By what the shown text changed since the history had `since` operations, from left to right, each in what the changes before it
         left: a host's own text becomes this one by them, as `applied` does. No character that stays is touched. An index above
         `operations`, or below 0, raises Refused with the status NONE."""
-        since, room = _index(since), 8
-        while True:
-            buffer, needed = (lib.Change * room)(), lib.size()
-            status = lib.changes(self._at, since, buffer, room, needed)
-            if status != Status.TOO_SHORT:
-                break
-            room = needed.value
-        must(status)
-        return [Change(it.place, it.removed, self._came(it.place, it.inserted)) for it in buffer[: needed.value]]
+        since = _index(since)
+        found = self._listed(lib.Change, lambda *out: lib.changes(self._at, since, *out))
+        return [Change(it.place, it.removed, self._came(it.place, it.inserted)) for it in found]
 
     def _came(self, place: int, count: int) -> str:
         return self.text_range(place, count) if count else ""
@@ -515,6 +509,36 @@ class Site:
         """The characters from place `start` on, and before `stop`."""
         return [self.name_at(place) for place in range(start, stop)]
 
+    def inserts(self, start: int, stop: int) -> list[Name]:
+        """The inserts by which the characters from place `start` on, and before `stop`, stand there, in the order of the text: neighbours of
+        one insert once."""
+        place, count = _place(start), _place(max(stop - start, 0))
+        found = self._listed(lib.Member, lambda *out: lib.names(self._at, place, count, *out))
+        return [Name(it.site, it.number) for it in found]
+
+    def anchor(self, place: int, side: Literal["left", "right"] = "left") -> Anchor:
+        """The anchor of the place after so many shown characters: a cursor that stays where it belongs while others edit. On the left it
+        keeps to the character in front of the place, or to the front of the text, and what is inserted at the place comes behind it; on the
+        right to the character behind it, or to the end of the text."""
+        if side not in ("left", "right"):
+            raise ValueError("the side of an anchor is 'left' or 'right'")
+        anchor, call = lib.Anchor(), lib.anchor_left if side == "left" else lib.anchor_right
+        must(call(self._at, _place(place), anchor))
+        return Anchor(AnchorKind(anchor.kind), anchor.site, anchor.number, anchor.offset)
+
+    def place_of(self, anchor: Anchor) -> Optional[int]:
+        """How many shown characters stand before an anchor, of this site or of another one, also while its character is hidden; None where
+        the character's insert isn't integrated here. It costs a step for each operation that was integrated since that. Numbers that are
+        no anchor raise Refused with the status NO_NAME."""
+        if not all(_fits(it) for it in anchor):
+            raise Refused(Status.NO_NAME)
+        place = lib.u32()
+        status = lib.anchor_place(self._at, lib.Anchor(*anchor), place)
+        if status == Status.NONE:
+            return None
+        must(status)
+        return place.value
+
     def generation(self, name: tuple[int, int]) -> int:
         """How often this insert or delete was undone and redone: an odd number while it is undone. A name that the site hasn't raises
         Refused with the status UNKNOWN."""
@@ -582,6 +606,18 @@ class Site:
     def _replied(self, call: Callable[..., int], message: bytes) -> bytes:
         data, why = bytes(message), lib.Verdict()
         return self._filled(call.__name__, lambda *out: call(self._at, data, len(data), *out, why), lambda status: taken(status, why))
+
+    def _listed(self, kind: Any, call: Callable[..., int]) -> list[Any]:
+        """The structs that a call hands out, asked for again where there was no room."""
+        room = 8
+        while True:
+            buffer, needed = (kind * room)(), lib.size()
+            status = call(buffer, room, needed)
+            if status != Status.TOO_SHORT:
+                break
+            room = needed.value
+        must(status)
+        return list(buffer[: needed.value])
 
     def _filled(self, what: str, call: Callable[..., int], look: Callable[[int], None]) -> bytes:
         """The bytes that a call hands out, asked for again where there was no room: that may cost as much as the first time."""

@@ -99,7 +99,7 @@ class Undo:
         """Takes back the edit that wrote last, whoever made it, of what stands from place `start` on and before `stop`: each insert of it
         of which a character stands there, whole; called again, the one before. What was deleted there isn't found, since no place tells
         it: `last_of` takes back deletes."""
-        there = {it.name for it in self._editor.names(start, stop)}
+        there = set(self._editor.inserts(start, stop))
         groups = self._groups_back(lambda it: it.name in there)
         return self._first_in_force([name for name in group if name in there] for group in groups)
 

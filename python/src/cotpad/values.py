@@ -46,6 +46,15 @@ class Kind(enum.IntEnum):
     REDO = 4
 
 
+class AnchorKind(enum.IntEnum):
+    """Where an anchor is: at the front or the end of the text, or behind or in front of a character."""
+
+    START = 1
+    END = 2
+    AFTER = 3
+    BEFORE = 4
+
+
 class Became(enum.IntEnum):
     """What became of a delivered or released operation, or of bytes."""
 
@@ -95,6 +104,17 @@ class Character(NamedTuple):
 
     name: Name
     offset: int
+
+
+class Anchor(NamedTuple):
+    """A place that stays beside a character while others edit, as `Site.anchor` answers it: the character at `offset`, from 0, in the text of
+    the insert `site`.`number`, which all sites call so. It is four numbers, which may be sent to other sites, or kept: `Anchor(*numbers)` is
+    it again. At the front and the end of the text the last three are 0."""
+
+    kind: AnchorKind
+    site: int = 0
+    number: int = 0
+    offset: int = 0
 
 
 class Member(NamedTuple):

@@ -1,5 +1,5 @@
 use Rattle.cotpad_c.specs.Changes.{change_told}
-use Rattle.cotpad_c.proofs.ToldChanges.{told_more}
+use Rattle.cotpad_c.proofs.ToldInFront.{told_more}
 use Rattle.cotpad_c.proofs.changes.tell_all.Goals as goal
 
 pub loop-i-preserved : goal.loop-i-preserved

@@ -1,5 +1,5 @@
 use Rattle.std.proofs.Common.{refl}
-use Rattle.cotpad_c.specs.Numbers.{AreStatuses, AreOperationKinds, AreVerdictKinds, AreLimits}
+use Rattle.cotpad_c.specs.Numbers.{AreStatuses, AreOperationKinds, AreAnchorKinds, AreVerdictKinds, AreLimits}
 use Rattle.cotpad_c.proofs.exports.cotpad_version.Goals as goal
 
 statuses : AreStatuses
@@ -38,6 +38,14 @@ operations = record {
   redo = refl;
 }
 
+anchors : AreAnchorKinds
+anchors = record {
+  start = refl;
+  end = refl;
+  after = refl;
+  before = refl;
+}
+
 verdicts : AreVerdictKinds
 verdicts = record {
   integrated = refl;
@@ -63,4 +71,5 @@ limits = record {
 }
 
 pub returns-clause-numbers : goal.returns-clause-numbers
-returns-clause-numbers c = record { version = refl; statuses = statuses; operations = operations; verdicts = verdicts; limits = limits }
+returns-clause-numbers c =
+    record { version = refl; statuses = statuses; operations = operations; anchors = anchors; verdicts = verdicts; limits = limits }

@@ -1,0 +1,15 @@
+use Rattle.std.proofs.Common.{◌≡◌, subst, sym}
+use Rattle.std.specs.Prelude.{Option, Some, slice_get}
+use Rattle.cot_site.specs.Sites.{SiteData}
+use Rattle.site_anchors.specs.declared.anchors.Side.TheVariants.{Right}
+use Rattle.site_anchors.specs.Anchors.{anchors_of}
+use Rattle.cotpad_c.specs.Hosting.{HostedData}
+use Rattle.cotpad_c.specs.Held.{held_site}
+use Rattle.cotpad_c.proofs.exports.cotpad_anchor_right.Goals as goal
+
+pub returns-clause-found : goal.returns-clause-found
+returns-clause-found c a at =
+    c.anchor_at.ensures.found a (
+    subst (λ (s : SiteData). slice_get (anchors_of s.history Right) c.args.place ≡ Some a) (sym c.site.ensures)
+    (subst (λ (o : Option HostedData). slice_get (anchors_of (held_site o).history Right) c.args.place ≡ Some a) c.inner.ensures.value at)
+    )
