@@ -137,7 +137,7 @@ PROMISES = (
     ),
     Promise(
         "From C: changes",
-        "A host's own text becomes the shown one by the changes that are told since any moment of the history, and by no others.",
+        "A host's own text becomes the shown one by the changes that are told since any moment of the history.",
         functions(EXPORTS, "cotpad_changes", "cotpad_text_range"),
     ),
     Promise(
