@@ -1,5 +1,5 @@
 -- Anchors as a host reads them, and as it gives them back.
-use Rattle.std.specs.Prelude.{◌≡◌, ℕ, ◌==◌, ◌&&◌, Bool, Option, Some, None, nat_le, nat_lt, option_map, if◌then◌else◌}
+use Rattle.std.specs.Prelude.{ℕ, ◌==◌, ◌&&◌, Bool, Option, Some, None, nat_le, nat_lt, option_map, if◌then◌else◌}
 use Rattle.op_name.specs.declared.name.TheConstants.{SITES, NUMBERS}
 use Rattle.op_name.specs.declared.limits.TheConstants.{LETTERS}
 use Rattle.tombstone_text.specs.declared.cell.CellId.{CellId}

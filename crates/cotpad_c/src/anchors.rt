@@ -29,8 +29,11 @@ pub struct CotpadAnchor {
 pub(crate) fn anchor_at(site: &Site, place: u32, side: Side, anchor: &mut CotpadAnchor) -> u32
     ensures found { (a : Anchor) → slice_get (anchors_of site.now.history side) place ≡ Some a
         → (result ≡ OK) × (anchor.new ≡ anchor_told a) }
+    ensures back { (a : Anchor) → slice_get (anchors_of site.now.history side) place ≡ Some a
+        → (anchor_given anchor.new ≡ Some a) × (place_told site.now.history a ≡ Some place) }
     ensures past { length (shown site.now.history) < place → (result ≡ PLACE_OUT) × (anchor.new ≡ anchor.old) }
 {
+    site.known();
     match site_anchors::anchor_at(site, place, side) {
         Some(at) => {
             *anchor = anchor_told(&at);

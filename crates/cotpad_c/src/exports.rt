@@ -399,6 +399,8 @@ pub extern "C" fn cotpad_anchor_left(
     requires { IsSome site.old.site }
     ensures found { (a : Anchor) → slice_get (anchors_of (held_site site.old.site).history Left) place ≡ Some a
         → (result ≡ OK) × (anchor.new ≡ anchor_told a) }
+    ensures back { (a : Anchor) → slice_get (anchors_of (held_site site.old.site).history Left) place ≡ Some a
+        → (anchor_given anchor.new ≡ Some a) × (place_told (held_site site.old.site).history a ≡ Some place) }
     ensures past { length (shown (held_site site.old.site).history) < place → (result ≡ PLACE_OUT) × (anchor.new ≡ anchor.old) }
     ensures same { site.new.site ≡ site.old.site }
 {
@@ -415,6 +417,8 @@ pub extern "C" fn cotpad_anchor_right(
     requires { IsSome site.old.site }
     ensures found { (a : Anchor) → slice_get (anchors_of (held_site site.old.site).history Right) place ≡ Some a
         → (result ≡ OK) × (anchor.new ≡ anchor_told a) }
+    ensures back { (a : Anchor) → slice_get (anchors_of (held_site site.old.site).history Right) place ≡ Some a
+        → (anchor_given anchor.new ≡ Some a) × (place_told (held_site site.old.site).history a ≡ Some place) }
     ensures past { length (shown (held_site site.old.site).history) < place → (result ≡ PLACE_OUT) × (anchor.new ≡ anchor.old) }
     ensures same { site.new.site ≡ site.old.site }
 {
