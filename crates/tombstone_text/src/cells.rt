@@ -151,6 +151,22 @@ impl Cells {
         self.chunks.shown_chunk(v)
     }
 
+    /// The number of shown cells of the chunks before chunk `i`; for `chunk_count` that of all.
+    pub fn shown_start(&self, i: u32) -> u32
+        requires { i ≤ length self.now.chunks }
+        ensures { result ≡ shown_in (flat (take i self.now.chunks)) }
+    {
+        self.chunks.shown_start(i)
+    }
+
+    /// The chunk in which the cell at place `i` stands, and how many cells of that chunk come before it.
+    pub fn place_chunk(&self, i: u32) -> (u32, u32)
+        requires { i < length self.now.cells }
+        ensures { IsPart (map length self.now.chunks) result.0 result.1 i }
+    {
+        self.chunks.place_chunk(i)
+    }
+
     /// The place of the cell with that name and offset; None exactly where there is none. It looks at the cells one
     /// after the other.
     pub fn place_of(&self, id: &CellId) -> Option<u32>

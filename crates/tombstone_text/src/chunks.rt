@@ -203,6 +203,26 @@ impl Chunks {
         (i as u32, before)
     }
 
+    /// The number of shown cells of the chunks before chunk `i`; for `chunk_count` that of all.
+    pub(crate) fn shown_start(&self, i: u32) -> u32
+        requires { i ≤ length self.now.chunks }
+        ensures { result ≡ shown_in (flat (take i self.now.chunks)) }
+    {
+        let _ = &self.list;
+        self.shown.start_of(i as usize)
+    }
+
+    /// The chunk in which the cell at place `i` stands, and how many cells of that chunk come before it.
+    pub(crate) fn place_chunk(&self, i: u32) -> (u32, u32)
+        requires { i < length self.now.cells }
+        ensures { IsPart (map length self.now.chunks) result.0 result.1 i }
+    {
+        let _ = self.lens.total();
+        let _ = &self.list;
+        let (k, before) = self.lens.find(i);
+        (k as u32, before)
+    }
+
     /// The first place at which a cell is one that is looked for.
     pub(crate) fn first_place(&self, sought: &Sought) -> Option<u32>
         ensures { result ≡ position (is_sought sought.now) self.now.cells }
