@@ -8,6 +8,7 @@ pub mod Raising
 pub mod Runs
 pub mod Following
 pub mod Pieces
+pub mod Reading
 pub mod Flags
 pub mod Bodies
 pub mod Ways

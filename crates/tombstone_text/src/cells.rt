@@ -14,6 +14,7 @@ ghost use Rattle.tombstone_text.specs.Code.Inserts.{AreInserts};
 ghost use Rattle.tombstone_text.specs.Code.Spans.{raised_run};
 
 use crate::cell::{Cell, CellId};
+use crate::chunk_cells::ChunkCells;
 use crate::chunks::{Chunks, Ready};
 use crate::deleters::Spare;
 use crate::sought::Sought;
@@ -123,6 +124,15 @@ impl Cells {
         ensures { result ≡ slice_get (slice_index_or self.now.chunks i []) at }
     {
         self.chunks.chunk_cell(i, at)
+    }
+
+    /// The cells of chunk `i`, to be read one after the other, each in a step; `chunk_cell` looks for its cell from the front
+    /// of the chunk on.
+    pub fn chunk_cells(&self, i: u32) -> ChunkCells<'_>
+        requires { i < length self.now.chunks }
+        ensures { result ≡ slice_index_or self.now.chunks i [] }
+    {
+        self.chunks.chunk_cells(i)
     }
 
     /// The characters of the cells of chunk `i`, in their order, of shown and hidden ones. Those of all chunks, one

@@ -11,6 +11,7 @@ ghost use Rattle.tombstone_text.specs.Code.Spans.{cells_in, raised_run};
 ghost use Rattle.tombstone_text.specs.declared.chunk.TheConstants.{FULL, GAPS};
 
 use crate::cell::Cell;
+use crate::chunk_cells::ChunkCells;
 use crate::deleters::Spare;
 use crate::sought::{Found, Sought};
 use crate::span::Span;
@@ -117,6 +118,14 @@ impl Chunk {
         } else {
             None
         }
+    }
+
+    /// The cells, to be read one after the other.
+    pub(crate) fn cells(&self) -> ChunkCells<'_>
+        ensures { result ≡ self.now.cells }
+    {
+        let _ = &self.flags;
+        ChunkCells::new(self.spans.as_slice())
     }
 
     /// The first place of the chunk at which a cell is one that is looked for.

@@ -15,6 +15,7 @@ ghost use Rattle.tombstone_text.specs.declared.chunk.TheConstants.{FULL, GAPS};
 
 use crate::cell::Cell;
 use crate::chunk::{Chunk, FULL, GAPS, room_for};
+use crate::chunk_cells::ChunkCells;
 use crate::deleters::Spare;
 use crate::sought::{Found, Sought};
 use crate::sums::Sums;
@@ -173,6 +174,15 @@ impl Chunks {
         ensures { result ≡ slice_get (slice_index_or self.now.chunks i []) at }
     {
         self.list[i as usize].cell(at)
+    }
+
+    /// The cells of chunk `i`, to be read one after the other.
+    pub(crate) fn chunk_cells(&self, i: u32) -> ChunkCells<'_>
+        requires { i < length self.now.chunks }
+        ensures { result ≡ slice_index_or self.now.chunks i [] }
+    {
+        let _ = &self.lens;
+        self.list[i as usize].cells()
     }
 
     /// The characters of the cells of chunk `i`.

@@ -13,6 +13,7 @@
 mod cell;
 mod cells;
 mod chunk;
+mod chunk_cells;
 mod chunks;
 mod deleters;
 mod sought;
@@ -22,3 +23,4 @@ mod sums;
 
 pub use cell::{Cell, CellId};
 pub use cells::Cells;
+pub use chunk_cells::ChunkCells;

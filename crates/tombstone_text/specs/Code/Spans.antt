@@ -73,3 +73,13 @@ pub record IsSpot (cs : List (List CellData)) (i : ℕ) (o : ℕ) (p : ℕ) : Ty
 -- a cell raised, if it is of the insert, and that has several cells
 abbrev pub raised_run : ℕ → NameData → CellData → CellData
 raised_run g n c = if c.of == 1 then c else raised g n c
+
+-- so many cells of the first span were read, and not all
+abbrev pub IsWithinFirst : List SpanData → ℕ → Type 0
+IsWithinFirst [] k = Unit {0}
+IsWithinFirst (s ∷ ss) k = k < s.count
+
+-- the spans that are left of a reading, of the first of which so many cells were read
+pub record AreLeft (ss : List SpanData) (k : ℕ) : Type 0 where
+  pub filled : AreFilled (pieces ss)
+  pub within : IsWithinFirst ss k
