@@ -17,4 +17,7 @@ pub mod Chunked
 pub mod Texts
 pub mod Beside
 pub mod Blocks
+pub mod Measuring
+pub mod Encoded
+pub mod Weighing
 pub mod CallerLemmas

@@ -1,4 +1,5 @@
 pub mod Sums
+pub mod Weights
 pub mod Chunks
 pub mod Cells
 pub mod Spans

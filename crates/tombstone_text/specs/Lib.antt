@@ -1,4 +1,5 @@
 pub mod Cells
 pub mod Chunks
 pub mod Sums
+pub mod Measures
 pub mod Code

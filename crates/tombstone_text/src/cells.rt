@@ -2,13 +2,14 @@
 
 ghost use Rattle.std.specs.Prelude.{◌≡◌, ◌+◌, ◌<◌, ◌≤◌, ◌^◌, ◌↔◌, [], length, filter, map, take, position, slice_get, slice_index_or, Contains, IfSome, IfNone, IsTrue, OnOk, OnErr, option_map};
 ghost use Rattle.ttf_form.specs.Names.{LacksName};
-ghost use Rattle.ttf_form.specs.Cells.{cell_shown, cells_of, put_in, bare_cells, change_at, marked, marked_in, applied, text_put, FitsCells};
+ghost use Rattle.ttf_form.specs.Cells.{cell_shown, cells_of, chars_where, put_in, bare_cells, change_at, marked, marked_in, applied, text_put, FitsCells};
 ghost use Rattle.ttf_form.specs.Forms.{extent_of};
 ghost use Rattle.ttf_form.specs.declared.include.TheConstants.{CELLS};
 ghost use Rattle.ttf_form.specs.declared.form.Form.TheVariants.{Cover as Covered};
 ghost use Rattle.tombstone_text.specs.Cells.{CellsData, HasGaps, HasRoomFor, IsOpenFor, is_cell};
 ghost use Rattle.tombstone_text.specs.Chunks.{flat, flag_of, joined, shown_in};
 ghost use Rattle.tombstone_text.specs.Sums.{IsPart};
+ghost use Rattle.tombstone_text.specs.Measures.{chunk_weights, weight_of};
 ghost use Rattle.tombstone_text.specs.Code.Cells.{IsReady};
 ghost use Rattle.tombstone_text.specs.Code.Inserts.{AreInserts};
 ghost use Rattle.tombstone_text.specs.Code.Spans.{raised_run};
@@ -17,6 +18,7 @@ use crate::cell::{Cell, CellId};
 use crate::chunk_cells::ChunkCells;
 use crate::chunks::{Chunks, Ready};
 use crate::deleters::Spare;
+use crate::measure::Measure;
 use crate::sought::Sought;
 use op_name::{Memory, Name};
 use std::alloc::Global;
@@ -175,6 +177,30 @@ impl Cells {
         ensures { IsPart (map length self.now.chunks) result.0 result.1 i }
     {
         self.chunks.place_chunk(i)
+    }
+
+    /// What all shown characters weigh, which is kept and not counted.
+    pub fn weight(&self, m: Measure) -> u64
+        ensures { result ≡ weight_of m (chars_where cell_shown self.now.cells self.now.text) }
+    {
+        self.chunks.weight(m)
+    }
+
+    /// What the shown characters of the chunks before chunk `i` weigh; for `chunk_count` what all do.
+    pub fn weight_start(&self, m: Measure, i: u32) -> u64
+        requires { i ≤ length self.now.chunks }
+        ensures { result ≡ weight_of m (chars_where cell_shown (flat (take i self.now.chunks)) (joined (take i self.now.texts))) }
+    {
+        self.chunks.weight_start(m, i)
+    }
+
+    /// The chunk that holds the `n`-th unit of weight, counted from 0, and how many units of that chunk come before it: it lies
+    /// within a shown character of the chunk.
+    pub fn weight_chunk(&self, m: Measure, n: u64) -> (u32, u32)
+        requires { n < weight_of m (chars_where cell_shown self.now.cells self.now.text) }
+        ensures { IsPart (chunk_weights m self.now.chunks self.now.texts) result.0 result.1 n }
+    {
+        self.chunks.weight_chunk(m, n)
     }
 
     /// The place of the cell with that name and offset; None exactly where there is none. It looks at the cells one

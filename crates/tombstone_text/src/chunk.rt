@@ -4,6 +4,8 @@ ghost use Rattle.std.specs.Prelude.{◌≡◌, ℕ, ◌+◌, ◌-◌, ◌<◌, �
 ghost use Rattle.ttf_form.specs.Cells.{CellData, cell_shown, bare_cells, change_at, marked, put_in};
 ghost use Rattle.tombstone_text.specs.Cells.{HasRoomOn};
 ghost use Rattle.tombstone_text.specs.Chunks.{flag_of, shown_in};
+ghost use Rattle.tombstone_text.specs.Measures.{weight_shown};
+ghost use Rattle.tombstone_text.specs.Code.Weights.{Weighs};
 ghost use Rattle.tombstone_text.specs.Code.Cells.{is_sought};
 ghost use Rattle.tombstone_text.specs.Code.Chunks.{ChunkData, IsChunk, blank};
 ghost use Rattle.tombstone_text.specs.Code.Inserts.{IsFound};
@@ -13,6 +15,7 @@ ghost use Rattle.tombstone_text.specs.declared.chunk.TheConstants.{FULL, GAPS};
 use crate::cell::Cell;
 use crate::chunk_cells::ChunkCells;
 use crate::deleters::Spare;
+use crate::measure::{Weight, weigh_shown};
 use crate::sought::{Found, Sought};
 use crate::span::Span;
 use crate::spans;
@@ -167,6 +170,13 @@ impl Chunk {
         ensures { result ≡ shown_in self.now.cells }
     {
         ones(self.flags())
+    }
+
+    /// What the shown characters weigh, each of which is looked at.
+    pub(crate) fn weight(&self) -> Weight
+        ensures { Weighs result (λ m. weight_shown m self.now.cells self.now.text) }
+    {
+        weigh_shown(self.flags(), self.text())
     }
 
     /// Makes room for so many cells in all, those that the chunk has among them, for their characters, and for two spans

@@ -1,12 +1,14 @@
-//! The chunks of a text, beside the columns of their lengths and of their numbers of shown cells.
+//! The chunks of a text, beside the columns of their lengths, of their numbers of shown cells, and of what these weigh.
 
-ghost use Rattle.std.specs.Prelude.{◌≡◌, ℕ, ◌+◌, ◌-◌, ◌<◌, ◌≤◌, ◌^◌, ◌↔◌, [], length, filter, map, take, min, position, slice_get, slice_index_or, vec_len, vec_capacity, IfSome, IfOk, OnOk, OnErr, IsTrue, IsFalse, option_map, if◌then◌else◌};
+ghost use Rattle.std.specs.Prelude.{◌≡◌, ℕ, ◌+◌, ◌-◌, ◌<◌, ◌≤◌, ◌^◌, ◌↔◌, [], length, filter, map, take, min, position, slice_get, slice_index, slice_index_or, vec_len, vec_capacity, IfSome, IfOk, OnOk, OnErr, IsTrue, IsFalse, option_map, if◌then◌else◌};
 ghost use Rattle.op_name.specs.declared.limits.TheConstants.{LETTERS};
 ghost use Rattle.ttf_form.specs.Cells.{cell_shown, bare_cells, change_at, marked, put_in};
 ghost use Rattle.ttf_form.specs.declared.include.TheConstants.{CELLS};
 ghost use Rattle.tombstone_text.specs.Cells.{HasGaps, HasRoomOn};
 ghost use Rattle.tombstone_text.specs.Chunks.{flat, flag_of, joined, shown_in};
 ghost use Rattle.tombstone_text.specs.Sums.{IsPart};
+ghost use Rattle.tombstone_text.specs.Measures.{chunk_weights, weight_shown};
+ghost use Rattle.tombstone_text.specs.Code.Weights.{AreWeights, column_of};
 ghost use Rattle.tombstone_text.specs.Code.Cells.{AreBeside, ChunksData, cut, fresh_gaps, fresh_room, HasPlaces, IsReady, IsSeat, IsText, IsWay, MayBeCut, is_sought};
 ghost use Rattle.tombstone_text.specs.Code.Chunks.{blank, bodies, gaps_of, rooms_of, texts_of};
 ghost use Rattle.tombstone_text.specs.Code.Inserts.{AreInserts, HasLast, IsFound, LacksRun};
@@ -16,9 +18,11 @@ ghost use Rattle.tombstone_text.specs.declared.chunk.TheConstants.{FULL, GAPS};
 use crate::cell::Cell;
 use crate::chunk::{Chunk, FULL, GAPS, room_for};
 use crate::chunk_cells::ChunkCells;
+use crate::counts::Counts;
 use crate::deleters::Spare;
+use crate::measure::{Measure, Weight, turned, weigh};
 use crate::sought::{Found, Sought};
-use crate::sums::Sums;
+use crate::weights::Weights;
 use op_name::{Memory, Name};
 use std::alloc::Global;
 use std::marker::Model;
@@ -60,24 +64,26 @@ impl Ready {
     }
 }
 
-/// The cells of a text in chunks of 1 to 512 cells. The lengths of the chunks and their numbers of shown cells are two
-/// columns of sums, by which the chunk of a place is found; so an insert moves cells of one chunk alone. The room of a
+/// The cells of a text in chunks of 1 to 512 cells. The lengths of the chunks, their numbers of shown cells and what the
+/// characters of these weigh are columns of sums, by which the chunk of a place is found; so an insert moves cells of one
+/// chunk alone, and changes the sums by what comes in, as a mark does by its cell. The room of a
 /// chunk grows as it fills. A chunk that would have too many cells is cut in two for an insert into it, and the upper
 /// part goes to a fresh chunk, which is made before.
 #[derive(Drop)]
 pub(crate) struct Chunks {
     list: Vec<Chunk>,
-    lens: Sums,
-    shown: Sums,
+    lens: Counts,
+    shown: Counts,
+    weights: Weights,
     fresh: Option<Chunk>,
 }
 
 impl Model for Chunks {
     ghost Value = { ChunksData };
 
-    ghost view = { λ c. record { chunks = bodies c.list.items; cells = flat (bodies c.list.items); texts = texts_of c.list.items; text = joined (texts_of c.list.items); rooms = rooms_of c.list.items; gaps = gaps_of c.list.items; fresh = fresh_room c.fresh; fresh_gaps = fresh_gaps c.fresh; spare = min (vec_capacity c.list - vec_len c.list) (min c.lens.spare c.shown.spare) } };
+    ghost view = { λ c. record { chunks = bodies c.list.items; cells = flat (bodies c.list.items); texts = texts_of c.list.items; text = joined (texts_of c.list.items); rooms = rooms_of c.list.items; gaps = gaps_of c.list.items; fresh = fresh_room c.fresh; fresh_gaps = fresh_gaps c.fresh; spare = min (vec_capacity c.list - vec_len c.list) (min c.lens.spare (min c.shown.spare c.weights.spare)) } };
 
-    ghost invariant = { λ c. IsText (bodies c.list.items) c.lens.parts c.shown.parts c.fresh × AreBeside (texts_of c.list.items) c.lens.parts };
+    ghost invariant = { λ c. IsText (bodies c.list.items) c.lens.parts c.shown.parts c.fresh × AreBeside (texts_of c.list.items) c.lens.parts × AreWeights (column_of c.weights) c.list.items };
 }
 
 impl Chunks {
@@ -88,8 +94,9 @@ impl Chunks {
     {
         Chunks {
             list: Vec::new(alloc),
-            lens: Sums::new(alloc),
-            shown: Sums::new(alloc),
+            lens: Counts::new(alloc),
+            shown: Counts::new(alloc),
+            weights: Weights::new(alloc),
             fresh: None,
         }
     }
@@ -233,6 +240,35 @@ impl Chunks {
         (k as u32, before)
     }
 
+    /// What all shown characters weigh.
+    pub(crate) fn weight(&self, m: Measure) -> u64
+        ensures { result ≡ weight_shown m self.now.cells self.now.text }
+    {
+        let _ = &self.list;
+        self.weights.column(m).total()
+    }
+
+    /// What the shown characters of the chunks before chunk `i` weigh; for `chunk_count` what all do.
+    pub(crate) fn weight_start(&self, m: Measure, i: u32) -> u64
+        requires { i ≤ length self.now.chunks }
+        ensures { result ≡ weight_shown m (flat (take i self.now.chunks)) (joined (take i self.now.texts)) }
+    {
+        let _ = &self.list;
+        self.weights.column(m).start_of(i as usize)
+    }
+
+    /// The chunk that holds the `n`-th unit of weight, and how many units of that chunk come before it.
+    pub(crate) fn weight_chunk(&self, m: Measure, n: u64) -> (u32, u32)
+        requires { n < weight_shown m self.now.cells self.now.text }
+        ensures { IsPart (chunk_weights m self.now.chunks self.now.texts) result.0 result.1 n }
+    {
+        let _ = self.lens.total();
+        let _ = &self.list;
+        let (k, before) = self.weights.column(m).find(n);
+        let _ = self.list[k].len();
+        (k as u32, before as u32)
+    }
+
     /// The first place at which a cell is one that is looked for.
     pub(crate) fn first_place(&self, sought: &Sought) -> Option<u32>
         ensures { result ≡ position (is_sought sought.now) self.now.cells }
@@ -337,6 +373,7 @@ impl Chunks {
         self.list.reserve(1)?;
         self.lens.reserve()?;
         self.shown.reserve()?;
+        self.weights.make_place()?;
         if !has_room(&self.fresh, room, gaps) {
             self.fresh = Some(Chunk::with_room(room, gaps, *self.list.allocator())?);
         }
@@ -436,6 +473,7 @@ impl Chunks {
                 chunk.put_all(0, ins, text);
                 self.lens.insert(0, ins.len as u32);
                 self.shown.insert(0, ins.len as u32);
+                self.weights.add(0, weigh(text));
                 self.list.push_reserved(chunk);
             }
             None => unreachable!(),
@@ -454,10 +492,14 @@ impl Chunks {
     {
         let len = self.lens.part(i);
         let shown = self.shown.part(i);
+        let had = self.weights.at(i);
+        let more = weigh(text);
+        let weight = had.plus(more);
         let chunk = &mut self.list[i];
         chunk.put_all(at, ins, text);
         self.lens.set(i, len + ins.len as u32);
         self.shown.set(i, shown + ins.len as u32);
+        self.weights.change(i, weight);
     }
 
     /// Cuts chunk `i` in two: its first `keep` cells stay, the others become the next chunk. The lower part keeps room
@@ -486,10 +528,14 @@ impl Chunks {
                 lower.split(keep, least, &mut upper);
                 let low = lower.shown();
                 let high = upper.shown();
+                let lower_weight = lower.weight();
+                let upper_weight = upper.weight();
                 self.lens.set(i, keep as u32);
                 self.lens.insert(i + 1, len - keep as u32);
                 self.shown.set(i, low);
                 self.shown.insert(i + 1, high);
+                self.weights.change(i, lower_weight);
+                self.weights.add(i + 1, upper_weight);
                 match self.list.insert(i + 1, upper) {
                     Ok(()) => {}
                     Err(_) => unreachable!(),
@@ -499,7 +545,7 @@ impl Chunks {
         }
     }
 
-    /// Marks the cell at the place of a cover, and counts the shown cells of its chunk anew.
+    /// Marks the cell at the place of a cover, by which the number and the weight of the shown cells of its chunk change.
     pub(crate) fn mark(&mut self, cover: &Cover, spare: &mut Spare)
         requires room { IfSome (slice_get self.old.cells cover.now.place) (λ d. HasRoomOn cover.now.mark d spare.old) }
         requires place { cover.now.place < length self.old.cells }
@@ -514,7 +560,11 @@ impl Chunks {
         let before = flag_at(chunk, at as usize);
         chunk.cover(at as usize, cover.mark, spare);
         let after = flag_at(chunk, at as usize);
+        let one = Weight::of(char_at(chunk, at as usize));
         self.shown.set(i, shown - before + after);
+        let had = self.weights.at(i);
+        let weight = turned(had, one, before, after);
+        self.weights.change(i, weight);
     }
 
     /// Raises all cells of an insert, if it has several. Where its first cell is that at the place, this costs by the
@@ -591,7 +641,7 @@ impl Chunks {
         self.list[i].found(name)
     }
 
-    /// Raises the cells of an insert in chunk `i`, if it has several, and counts the chunk's shown cells anew.
+    /// Raises the cells of an insert in chunk `i`, if it has several, and counts and weighs the chunk's shown cells anew.
     fn raise_there(&mut self, i: usize, name: &Name, generation: u16)
         requires { i < length self.old.chunks }
         ensures chunks { self.new.chunks ≡ change_at i (map (raised_run generation name.now)) self.old.chunks }
@@ -601,7 +651,9 @@ impl Chunks {
         let chunk = &mut self.list[i];
         chunk.raise(name, generation);
         let shown = chunk.shown();
+        let weight = chunk.weight();
         self.shown.set(i, shown);
+        self.weights.change(i, weight);
     }
 }
 
@@ -644,4 +696,12 @@ fn flag_at(chunk: &Chunk, at: usize) -> u32
     ensures { result ≡ flag_of (slice_index_or chunk.now.cells at blank) }
 {
     chunk.flags()[at] as u32
+}
+
+/// The character of the cell at place `at` of a chunk.
+fn char_at(chunk: &Chunk, at: usize) -> char
+    requires { at < length chunk.now.cells }
+    ensures { result ≡ slice_index chunk.now.text at }
+{
+    chunk.text()[at]
 }

@@ -15,12 +15,16 @@ mod cells;
 mod chunk;
 mod chunk_cells;
 mod chunks;
+mod counts;
 mod deleters;
+mod measure;
 mod sought;
 mod span;
 mod spans;
 mod sums;
+mod weights;
 
 pub use cell::{Cell, CellId};
 pub use cells::Cells;
 pub use chunk_cells::ChunkCells;
+pub use measure::Measure;

@@ -12,15 +12,15 @@ use std::marker::Model;
 /// The sums of so many numbers each are kept.
 pub(crate) const BLOCK: usize = 64;
 
-/// Numbers, each of which counts some things, with their sum, which is below 2^32, and the sum of each block of
+/// Numbers, each of which counts some things, with their sum, which is below 2^64, and the sum of each block of
 /// 64 of them. All the things, one number's after the other's, are counted from 0; where the n-th of them lies
 /// is found by the blocks, and then within one block. A change of a number changes one block; a new number has
 /// all blocks added up anew.
 #[derive(Drop)]
 pub(crate) struct Sums {
-    parts: Vec<u32>,
-    blocks: Vec<u32>,
-    total: u32,
+    parts: Vec<u64>,
+    blocks: Vec<u64>,
+    total: u64,
 }
 
 impl Model for Sums {
@@ -44,15 +44,15 @@ impl Sums {
     }
 
     /// The sum of all numbers.
-    pub(crate) fn total(&self) -> u32
+    pub(crate) fn total(&self) -> u64
         ensures total { result ≡ sum self.now.parts }
-        ensures low { sum self.now.parts < 2 ^ 32 }
+        ensures low { sum self.now.parts < 2 ^ 64 }
     {
         self.total
     }
 
     /// The number at a place.
-    pub(crate) fn part(&self, i: usize) -> u32
+    pub(crate) fn part(&self, i: usize) -> u64
         requires { i < length self.now.parts }
         ensures { result ≡ slice_index self.now.parts i }
     {
@@ -60,7 +60,7 @@ impl Sums {
     }
 
     /// The place of the number within which the `n`-th thing lies, and how many things of that number come before it.
-    pub(crate) fn find(&self, n: u32) -> (usize, u32)
+    pub(crate) fn find(&self, n: u64) -> (usize, u64)
         requires { n < sum self.now.parts }
         ensures { IsPart self.now.parts result.0 result.1 n }
     {
@@ -68,7 +68,7 @@ impl Sums {
     }
 
     /// The sum of the numbers before a place.
-    pub(crate) fn start_of(&self, i: usize) -> u32
+    pub(crate) fn start_of(&self, i: usize) -> u64
         requires { i ≤ length self.now.parts }
         ensures { result ≡ sum (take i self.now.parts) }
     {
@@ -86,9 +86,9 @@ impl Sums {
     }
 
     /// Changes the number at a place.
-    pub(crate) fn set(&mut self, i: usize, part: u32)
+    pub(crate) fn set(&mut self, i: usize, part: u64)
         requires within { i < length self.old.parts }
-        requires low { sum (slice_set self.old.parts i part) < 2 ^ 32 }
+        requires low { sum (slice_set self.old.parts i part) < 2 ^ 64 }
         ensures parts { self.new.parts ≡ slice_set self.old.parts i part }
         ensures room { self.new.spare ≡ self.old.spare }
     {
@@ -100,10 +100,10 @@ impl Sums {
     }
 
     /// Puts a number at a place, in the room that `reserve` made.
-    pub(crate) fn insert(&mut self, i: usize, part: u32)
+    pub(crate) fn insert(&mut self, i: usize, part: u64)
         requires room { 1 ≤ self.old.spare }
         requires within { i ≤ length self.old.parts }
-        requires low { sum self.old.parts + part < 2 ^ 32 }
+        requires low { sum self.old.parts + part < 2 ^ 64 }
         ensures parts { self.new.parts ≡ insert self.old.parts i part }
     {
         self.total += part;
@@ -116,9 +116,9 @@ impl Sums {
 }
 
 /// Adds all blocks up anew.
-fn build(parts: &[u32], blocks: &mut Vec<u32>)
+fn build(parts: &[u64], blocks: &mut Vec<u64>)
     requires room { length parts.now ≤ BLOCK * vec_capacity blocks.old }
-    requires low { sum parts.now < 2 ^ 32 }
+    requires low { sum parts.now < 2 ^ 64 }
     ensures blocks { AreBlocks blocks.new.items parts.now }
     ensures room { vec_capacity blocks.new ≡ vec_capacity blocks.old }
 {
@@ -132,9 +132,9 @@ fn build(parts: &[u32], blocks: &mut Vec<u32>)
 }
 
 /// The sum of up to 64 numbers from a place on.
-fn block_sum(parts: &[u32], at: usize) -> u32
+fn block_sum(parts: &[u64], at: usize) -> u64
     requires within { at < length parts.now }
-    requires low { sum parts.now < 2 ^ 32 }
+    requires low { sum parts.now < 2 ^ 64 }
     ensures { result ≡ sum (take BLOCK (drop at parts.now)) }
 {
     let rest = &parts[at..];
@@ -143,7 +143,7 @@ fn block_sum(parts: &[u32], at: usize) -> u32
 
 /// The place of the number within which the `n`-th thing lies, and how many things of that number come before
 /// it: the block is found first, then the number.
-fn find_in(parts: &[u32], blocks: &[u32], n: u32) -> (usize, u32)
+fn find_in(parts: &[u64], blocks: &[u64], n: u64) -> (usize, u64)
     requires within { n < sum parts.now }
     requires blocks { AreBlocks blocks.now parts.now }
     ensures { IsPart parts.now result.0 result.1 n }
@@ -153,7 +153,7 @@ fn find_in(parts: &[u32], blocks: &[u32], n: u32) -> (usize, u32)
 }
 
 /// The block within which the `n`-th thing lies, and how many things of the block come before it.
-fn find_block(parts: &[u32], blocks: &[u32], n: u32) -> (usize, u32)
+fn find_block(parts: &[u64], blocks: &[u64], n: u64) -> (usize, u64)
     requires { AreBlocks blocks.now parts.now }
     ensures within { result.0 ≤ length blocks.now }
     ensures left { sum (take (BLOCK * result.0) parts.now) + result.1 ≡ n }
@@ -172,7 +172,7 @@ fn find_block(parts: &[u32], blocks: &[u32], n: u32) -> (usize, u32)
 }
 
 /// The same from the number at `from` on, where `n` counts the things from there.
-fn find_from(parts: &[u32], from: usize, n: u32) -> (usize, u32)
+fn find_from(parts: &[u64], from: usize, n: u64) -> (usize, u64)
     requires from { from ≤ length parts.now }
     requires within { sum (take from parts.now) + n < sum parts.now }
     ensures { IsPart parts.now result.0 result.1 (sum (take from parts.now) + n) }
@@ -190,9 +190,9 @@ fn find_from(parts: &[u32], from: usize, n: u32) -> (usize, u32)
 }
 
 /// The sum of the numbers before a place: those of whole blocks, then the rest.
-fn sum_to(parts: &[u32], blocks: &[u32], i: usize) -> u32
+fn sum_to(parts: &[u64], blocks: &[u64], i: usize) -> u64
     requires within { i ≤ length parts.now }
-    requires low { sum parts.now < 2 ^ 32 }
+    requires low { sum parts.now < 2 ^ 64 }
     requires blocks { AreBlocks blocks.now parts.now }
     ensures { result ≡ sum (take i parts.now) }
 {
@@ -204,9 +204,9 @@ fn sum_to(parts: &[u32], blocks: &[u32], i: usize) -> u32
 }
 
 /// The sum of the first `j` blocks.
-fn sum_blocks(parts: &[u32], blocks: &[u32], j: usize) -> u32
+fn sum_blocks(parts: &[u64], blocks: &[u64], j: usize) -> u64
     requires within { j ≤ length blocks.now }
-    requires low { sum parts.now < 2 ^ 32 }
+    requires low { sum parts.now < 2 ^ 64 }
     requires blocks { AreBlocks blocks.now parts.now }
     ensures { result ≡ sum (take (BLOCK * j) parts.now) }
 {
@@ -219,9 +219,9 @@ fn sum_blocks(parts: &[u32], blocks: &[u32], j: usize) -> u32
 }
 
 /// The sum of the numbers before a place.
-fn sum_before(parts: &[u32], i: usize) -> u32
+fn sum_before(parts: &[u64], i: usize) -> u64
     requires within { i ≤ length parts.now }
-    requires low { sum parts.now < 2 ^ 32 }
+    requires low { sum parts.now < 2 ^ 64 }
     ensures { result ≡ sum (take i parts.now) }
 {
     let mut total = 0;

@@ -7,10 +7,10 @@ pub record Column : Type 0 where
   pub parts : List ℕ
   pub spare : ℕ
 
--- the sum, which 32 bits hold
+-- the sum, which 64 bits hold
 pub record IsTotal (n : ℕ) (parts : List ℕ) : Type 0 where
   pub total : n ≡ sum parts
-  pub low : sum parts < 2 ^ 32
+  pub low : sum parts < 2 ^ 64
 
 -- each block is the sum of BLOCK numbers, the last one of those that are left
 pub record AreBlocks (blocks : List ℕ) (parts : List ℕ) : Type 0 where

@@ -4,6 +4,8 @@ use Rattle.tombstone_text.specs.Chunks.{flat, joined}
 use Rattle.tombstone_text.specs.Code.Chunks.{bodies}
 use Rattle.tombstone_text.specs.declared.chunk.TheConstants.{GAPS}
 use Rattle.tombstone_text.proofs.Bodies as body
+use Rattle.tombstone_text.specs.Code.Weights.{column_of}
+use Rattle.tombstone_text.proofs.Weighing as weigh
 use Rattle.tombstone_text.proofs.chunks.Chunks.grow.Goals as goal
 
 pub invariant_of-self : goal.invariant_of-self
@@ -15,7 +17,10 @@ invariant_of-self c =
     let texts =
     body.texts_kept c.self.inside.list.items c.args.i c.index_mut.result.now c.grow.new.self lt c.index_mut.ensures.value
     c.grow.ensures.text in
-    (rw kept c.self.invariant.0, rw texts c.self.invariant.1)
+    let weights =
+    weigh.weights_kept (column_of c.self.inside.weights) c.self.inside.list.items c.args.i c.index_mut.result.now c.grow.new.self lt
+    c.index_mut.ensures.value c.grow.ensures.cells c.grow.ensures.text c.self.invariant.2 in
+    (rw kept c.self.invariant.0, rw texts c.self.invariant.1, weights)
 
 pub returns-clause-chunks : goal.returns-clause-chunks
 returns-clause-chunks c =

@@ -8,6 +8,8 @@ use Rattle.tombstone_text.specs.declared.chunk.TheConstants.{GAPS}
 use Rattle.tombstone_text.proofs.Bodies as body
 use Rattle.tombstone_text.proofs.Chunked as chunked
 use Rattle.tombstone_text.proofs.Texts as texts
+use Rattle.tombstone_text.specs.Code.Weights.{column_of}
+use Rattle.tombstone_text.proofs.Weighing as weigh
 use Rattle.tombstone_text.proofs.chunks.Chunks.make_gaps.Goals as goal
 
 pub find-i-requires : goal.find-i-requires
@@ -25,7 +27,11 @@ invariant_of-self c =
     let texts =
     body.texts_kept c.self.inside.list.items c.find-i.result.0 c.index_mut.result.now c.make_gaps.new.self spot.chunk
     c.index_mut.ensures.value c.make_gaps.ensures.text in
-    (rw kept c.self.invariant.0, rw texts c.self.invariant.1)
+    let weights =
+    weigh.weights_kept (column_of c.self.inside.weights) c.self.inside.list.items c.find-i.result.0 c.index_mut.result.now
+    c.make_gaps.new.self spot.chunk c.index_mut.ensures.value c.make_gaps.ensures.cells c.make_gaps.ensures.text
+    c.self.invariant.2 in
+    (rw kept c.self.invariant.0, rw texts c.self.invariant.1, weights)
 
 pub returns-clause-chunks : goal.returns-clause-chunks
 returns-clause-chunks c =

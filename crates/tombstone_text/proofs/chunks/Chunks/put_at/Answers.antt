@@ -10,6 +10,10 @@ use Rattle.tombstone_text.proofs.Beside as beside
 use Rattle.tombstone_text.proofs.Bodies as body
 use Rattle.tombstone_text.proofs.Chunked as chunked
 use Rattle.tombstone_text.proofs.Texts as texts
+use Rattle.tombstone_text.proofs.Weighing as weigh
+use Rattle.tombstone_text.proofs.Measuring.{weight_of-le}
+use Rattle.tombstone_text.specs.declared.measure.Measure.TheVariants.{Bytes, Units, Lines}
+use Rattle.tombstone_text.specs.Code.Weights.{weighed, column_of}
 use Rattle.tombstone_text.proofs.chunks.Chunks.put_at.Goals as goal
 
 pub set-requires-clause-low : goal.set-requires-clause-low
@@ -73,9 +77,22 @@ invariant_of-self c =
     (ap (λ n. n + a.len) c.part-len.ensures) (ap (λ n. n + a.len) c.part-shown.ensures) in
     let texts =
     beside.beside_put _ _ _ _ _ c.args.i c.args.at c.part-len.result a.len (bare_cells a) c.put_all.new.self.cells c.put_all.new.self.text
-    c.self.invariant.0 c.self.invariant.1 lt within new (length-bare a) c.part-len.ensures c.put_all.ensures.long in (
+    c.self.invariant.0 c.self.invariant.1 lt within new (length-bare a) c.part-len.ensures c.put_all.ensures.long in
+    let x = c.index_mut-chunk.result.now in
+    let matched = weigh.text_beside _ _ _ _ c.args.i x c.self.invariant.0 c.self.invariant.1 lt c.index_mut-chunk.ensures.value in
+    let was =
+    weigh.weight_read (column_of c.self.inside.weights) c.self.inside.list.items c.args.i x c.self.invariant.2 lt
+    c.index_mut-chunk.ensures.value in
+    let more =
+    weigh.weight_put a c.args.at x c.put_all.new.self c.args.text.now matched c.requires.text c.put_all.ensures.cells
+    c.put_all.ensures.text in
+    let weights =
+    weigh.weights_set (column_of c.self.inside.weights) (column_of c.change.new.self) c.self.inside.list.items c.args.i c.put_all.new.self
+    (weighed c.plus-weight.result) c.self.invariant.2 c.change.ensures.parts
+    (λ m. omega (arith, c.plus-weight.ensures m, c.at-had.ensures m, c.weigh-more.ensures m, was m, more m)) in (
       rw (c.set.ensures.parts, c.set-2.ensures.parts, body.bodies_set c.self.inside.list.items c.args.i c.put_all.new.self) text,
       rw (c.set.ensures.parts, body.texts_set c.self.inside.list.items c.args.i c.put_all.new.self) texts,
+      weights,
     )
 
 pub returns-clause-cells : goal.returns-clause-cells
@@ -107,3 +124,90 @@ returns-clause-text c p s =
     ∙ ap (λ d. joined (set ts c.args.i d)) new
     ∙ beside.joined_put ts cs _ _ _ c.args.i c.args.at p c.args.text.now c.self.invariant.0 c.self.invariant.1 seat
     ∙ ap (λ v. put_in p c.args.text.now v.text) c.self.view_is
+
+pub at-had-requires : goal.at-had-requires
+at-had-requires c m =
+    let lt : c.args.i < length (bodies c.self.inside.list.items) = let n = ap (λ v. length v.chunks) c.self.view_is in omega arith in
+    omega (arith, lt, weigh.weights_long (column_of c.self.inside.weights) c.self.inside.list.items c.self.invariant.2 m)
+
+pub weigh-more-requires : goal.weigh-more-requires
+weigh-more-requires c = omega (arith, c.requires.text, c.args.ins.now.most)
+
+pub plus-weight-requires-clause-bytes : goal.plus-weight-requires-clause-bytes
+plus-weight-requires-clause-bytes c =
+    let lt : c.args.i < length (bodies c.self.inside.list.items) = let n = ap (λ v. length v.chunks) c.self.view_is in omega arith in
+    let ps = (column_of c.self.inside.weights) in
+    let cs = c.self.inside.list.items in
+    let seen = ap (λ v. length v.cells) c.self.view_is in
+    omega (
+      arith,
+      seen,
+      c.requires.bound,
+      c.requires.text,
+      c.args.ins.now.most,
+      c.at-had.ensures Bytes,
+      c.weigh-more.ensures Bytes,
+      weigh.weight-low ps cs c.args.i c.self.invariant.2 lt Bytes,
+      weight_of-le Bytes c.args.text.now,
+    )
+
+pub plus-weight-requires-clause-units : goal.plus-weight-requires-clause-units
+plus-weight-requires-clause-units c =
+    let lt : c.args.i < length (bodies c.self.inside.list.items) = let n = ap (λ v. length v.chunks) c.self.view_is in omega arith in
+    let ps = (column_of c.self.inside.weights) in
+    let cs = c.self.inside.list.items in
+    let seen = ap (λ v. length v.cells) c.self.view_is in
+    omega (
+      arith,
+      seen,
+      c.requires.bound,
+      c.requires.text,
+      c.args.ins.now.most,
+      c.at-had.ensures Units,
+      c.weigh-more.ensures Units,
+      weigh.weight-low ps cs c.args.i c.self.invariant.2 lt Units,
+      weight_of-le Units c.args.text.now,
+    )
+
+pub plus-weight-requires-clause-lines : goal.plus-weight-requires-clause-lines
+plus-weight-requires-clause-lines c =
+    let lt : c.args.i < length (bodies c.self.inside.list.items) = let n = ap (λ v. length v.chunks) c.self.view_is in omega arith in
+    let ps = (column_of c.self.inside.weights) in
+    let cs = c.self.inside.list.items in
+    let seen = ap (λ v. length v.cells) c.self.view_is in
+    omega (
+      arith,
+      seen,
+      c.requires.bound,
+      c.requires.text,
+      c.args.ins.now.most,
+      c.at-had.ensures Lines,
+      c.weigh-more.ensures Lines,
+      weigh.weight-low ps cs c.args.i c.self.invariant.2 lt Lines,
+      weight_of-le Lines c.args.text.now,
+    )
+
+pub change-requires-clause-within : goal.change-requires-clause-within
+change-requires-clause-within c m =
+    let lt : c.args.i < length (bodies c.self.inside.list.items) = let n = ap (λ v. length v.chunks) c.self.view_is in omega arith in
+    omega (arith, lt, weigh.weights_long (column_of c.self.inside.weights) c.self.inside.list.items c.self.invariant.2 m)
+
+pub change-requires-clause-low : goal.change-requires-clause-low
+change-requires-clause-low c m =
+    let lt : c.args.i < length (bodies c.self.inside.list.items) = let n = ap (λ v. length v.chunks) c.self.view_is in omega arith in
+    let ps = (column_of c.self.inside.weights) in
+    let cs = c.self.inside.list.items in
+    let seen = ap (λ v. length v.cells) c.self.view_is in
+    omega (
+      arith,
+      seen,
+      c.requires.bound,
+      c.requires.text,
+      c.args.ins.now.most,
+      c.at-had.ensures m,
+      c.weigh-more.ensures m,
+      c.plus-weight.ensures m,
+      weigh.weight-low ps cs c.args.i c.self.invariant.2 lt m,
+      weight_of-le m c.args.text.now,
+      weigh.set-low ps cs c.args.i (weighed c.plus-weight.result m) c.self.invariant.2 lt m,
+    )

@@ -1,4 +1,4 @@
-use Rattle.std.proofs.Common.{◌+◌, ◌<◌, List, [], length, get_or, ap, ◌∙◌, arith}
+use Rattle.std.proofs.Common.{ℕ, ◌+◌, ◌<◌, List, [], length, get_or, sym, ap, subst, ◌∙◌, arith}
 use Rattle.std.specs.List.{sum}
 use Rattle.ttf_form.specs.Cells.{CellData}
 use Rattle.tombstone_text.specs.Chunks.{flat, joined}
@@ -8,6 +8,10 @@ use Rattle.tombstone_text.proofs.Beside as beside
 use Rattle.tombstone_text.proofs.Bodies as body
 use Rattle.tombstone_text.proofs.Chunked as chunked
 use Rattle.tombstone_text.proofs.Texts as texts
+use Rattle.tombstone_text.proofs.Weighing as weigh
+use Rattle.tombstone_text.proofs.Measuring.{shown-le}
+use Rattle.std.proofs.lemmas.List.{length-take, length-drop, length-set}
+use Rattle.tombstone_text.specs.Code.Weights.{AreWeights, weighed, column_of}
 use Rattle.tombstone_text.proofs.chunks.Chunks.split.Goals as goal
 
 pub set-requires-clause-low : goal.set-requires-clause-low
@@ -89,6 +93,11 @@ invariant_of-self c =
         c.insert.ensures.parts,
         c.set.ensures.parts,
       ) texts,
+      subst (λ ds. AreWeights (column_of c.add.new.self) ds) (sym c.in-Ok.ensures.items)
+          (weigh.weights_two (column_of c.self.inside.weights) (column_of c.change.new.self) (column_of c.add.new.self)
+          c.self.inside.list.items c.args.i
+          (c.args.i + 1) _ _ (weighed c.weight-lower_weight.result) (weighed c.weight-upper_weight.result) c.self.invariant.2
+          c.change.ensures.parts c.add.ensures.parts c.weight-lower_weight.ensures c.weight-upper_weight.ensures),
     )
 
 pub returns-clause-chunks : goal.returns-clause-chunks
@@ -131,4 +140,64 @@ split-requires-clause-gaps c =
       c.requires.gaps,
       body.gap_read c.self.inside.list.items c.args.i c.index_mut-lower.result.now lt
           c.index_mut-lower.ensures.value,
+    )
+
+pub change-requires-clause-within : goal.change-requires-clause-within
+change-requires-clause-within c m =
+    let lt : c.args.i < length (bodies c.self.inside.list.items) = let n = ap (λ v. length v.chunks) c.self.view_is in omega arith in
+    omega (arith, lt, weigh.weights_long (column_of c.self.inside.weights) c.self.inside.list.items c.self.invariant.2 m)
+
+pub change-requires-clause-low : goal.change-requires-clause-low
+change-requires-clause-low c m =
+    let lt : c.args.i < length (bodies c.self.inside.list.items) = let n = ap (λ v. length v.chunks) c.self.view_is in omega arith in
+    let ps = (column_of c.self.inside.weights) in
+    let cs = c.self.inside.list.items in
+    let x = c.index_mut-lower.result.now in
+    let seen = ap (λ v. length v.cells) c.self.view_is in
+    let low = ap (λ (s : List CellData). length s) c.split.ensures.lower in
+    let high = ap (λ (s : List CellData). length s) c.split.ensures.upper in
+    omega (
+      arith,
+      seen,
+      low,
+      c.requires.bound,
+      length-take c.args.keep x.cells,
+      c.weight-lower_weight.ensures m,
+      shown-le m c.split.new.self.cells c.split.new.self.text,
+      weigh.chunk-le cs c.args.i x lt c.index_mut-lower.ensures.value,
+      weigh.set-low ps cs c.args.i (weighed c.weight-lower_weight.result m) c.self.invariant.2 lt m,
+    )
+
+pub add-requires-clause-within : goal.add-requires-clause-within
+add-requires-clause-within c m =
+    let lt : c.args.i < length (bodies c.self.inside.list.items) = let n = ap (λ v. length v.chunks) c.self.view_is in omega arith in
+    let ps = (column_of c.self.inside.weights) in
+    let w = weighed c.weight-lower_weight.result m in
+    let same = ap (λ (ns : List ℕ). length ns) (c.change.ensures.parts m) ∙ length-set (ps m) c.args.i w in
+    omega (arith, lt, same, weigh.weights_long ps c.self.inside.list.items c.self.invariant.2 m)
+
+pub add-requires-clause-low : goal.add-requires-clause-low
+add-requires-clause-low c m =
+    let lt : c.args.i < length (bodies c.self.inside.list.items) = let n = ap (λ v. length v.chunks) c.self.view_is in omega arith in
+    let ps = (column_of c.self.inside.weights) in
+    let cs = c.self.inside.list.items in
+    let x = c.index_mut-lower.result.now in
+    let seen = ap (λ v. length v.cells) c.self.view_is in
+    let low = ap (λ (s : List CellData). length s) c.split.ensures.lower in
+    let high = ap (λ (s : List CellData). length s) c.split.ensures.upper in
+    omega (
+      arith,
+      seen,
+      low,
+      high,
+      c.requires.bound,
+      length-take c.args.keep x.cells,
+      length-drop c.args.keep x.cells,
+      ap sum (c.change.ensures.parts m),
+      c.weight-lower_weight.ensures m,
+      c.weight-upper_weight.ensures m,
+      shown-le m c.split.new.self.cells c.split.new.self.text,
+      shown-le m c.split.new.upper.cells c.split.new.upper.text,
+      weigh.chunk-le cs c.args.i x lt c.index_mut-lower.ensures.value,
+      weigh.set-low ps cs c.args.i (weighed c.weight-lower_weight.result m) c.self.invariant.2 lt m,
     )
