@@ -1,6 +1,6 @@
 //! A chunk: some of the cells of a text that stand side by side, with their characters.
 
-ghost use Rattle.std.specs.Prelude.{◌≡◌, ℕ, ◌+◌, ◌-◌, ◌<◌, ◌≤◌, List, [], length, map, take, drop, insert, position, replicate, sum, min, vec_len, vec_capacity, slice_index_or, slice_get, slice_set, IfOk, OnOk, OnErr, if◌then◌else◌};
+ghost use Rattle.std.specs.Prelude.{◌≡◌, ℕ, ◌+◌, ◌-◌, ◌<◌, ◌≤◌, List, [], ◌∷◌, length, map, take, drop, insert, position, replicate, sum, min, vec_len, vec_capacity, slice_index_or, slice_get, slice_set, IfOk, OnOk, OnErr, if◌then◌else◌};
 ghost use Rattle.ttf_form.specs.Cells.{CellData, cell_shown, bare_cells, change_at, marked, put_in};
 ghost use Rattle.tombstone_text.specs.Cells.{HasRoomOn};
 ghost use Rattle.tombstone_text.specs.Chunks.{flag_of, shown_in};
@@ -318,11 +318,12 @@ fn put_shown(flags: &mut Vec<u8>, at: usize, count: usize)
     requires room { vec_len flags.old + count ≤ vec_capacity flags.old }
     ensures { flags.new.items ≡ put_in at (replicate count 1) flags.old.items }
 {
-    match flags.resize(flags.len() + count, 1) {
-        Ok(()) => {}
-        Err(_) => unreachable!(),
+    if count == 1 {
+        put_one(flags, at, 1);
+        return;
     }
-    flags[at..].rotate_right(count);
+    open_gap(flags, at, count, 1);
+    flags[at..at + count].fill(1);
 }
 
 /// Puts characters at a place of a column.
@@ -331,11 +332,40 @@ fn put_text(column: &mut Vec<char>, at: usize, text: &[char])
     requires room { vec_len column.old + length text.now ≤ vec_capacity column.old }
     ensures { column.new.items ≡ put_in at text.now column.old.items }
 {
-    match column.extend_from_slice(text) {
+    if text.len() == 1 {
+        put_one(column, at, text[0]);
+        return;
+    }
+    open_gap(column, at, text.len(), '\0');
+    column[at..at + text.len()].copy_from_slice(text);
+}
+
+/// Puts one element at a place of a column.
+fn put_one<T>(column: &mut Vec<T>, at: usize, element: T)
+    requires within { at ≤ vec_len column.old }
+    requires room { vec_len column.old < vec_capacity column.old }
+    ensures { column.new.items ≡ put_in at (element ∷ []) column.old.items }
+{
+    match column.insert(at, element) {
         Ok(()) => {}
         Err(_) => unreachable!(),
     }
-    column[at..].rotate_right(text.len());
+}
+
+/// Moves the elements from a place of a column so many places up. In the gap, which the caller fills, anything may stand.
+fn open_gap<T: Copy>(column: &mut Vec<T>, at: usize, count: usize, any: T)
+    requires within { at ≤ vec_len column.old }
+    requires room { vec_len column.old + count ≤ vec_capacity column.old }
+    ensures before { take at column.new.items ≡ take at column.old.items }
+    ensures behind { drop (at + count) column.new.items ≡ drop at column.old.items }
+    ensures len { vec_len column.new ≡ vec_len column.old + count }
+{
+    let len = column.len();
+    match column.resize(len + count, any) {
+        Ok(()) => {}
+        Err(_) => unreachable!(),
+    }
+    column.copy_within(at..len, at + count);
 }
 
 /// Moves the spans from place `keep` on to an empty list, in their order.
