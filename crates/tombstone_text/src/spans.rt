@@ -21,8 +21,7 @@ use ttf_form::{Ins, Mark};
 pub(crate) fn find(spans: &[Span], at: usize) -> (usize, usize)
     ensures { IsPlace (pieces spans.now) result.0 result.1 at }
 {
-    let mut i = 0;
-    let mut left = at;
+    let (mut i, mut left) = past_fours(spans, at);
     while i < spans.len() {
         let count = spans[i].count();
         if left < count {
@@ -32,6 +31,33 @@ pub(crate) fn find(spans: &[Span], at: usize) -> (usize, usize)
         i += 1;
     }
     (i, left)
+}
+
+/// A span not behind the place, with the distance from its start: four at a time are passed, as far as the place is behind all
+/// of them.
+fn past_fours(spans: &[Span], at: usize) -> (usize, usize)
+    ensures within { result.0 ≤ length spans.now }
+    ensures place { length (flat (take result.0 (pieces spans.now))) + result.1 ≡ at }
+{
+    let mut i = 0;
+    let mut left = at;
+    while spans.len() - i >= 4 {
+        let count = in_four(spans, i);
+        if left < count {
+            return (i, left);
+        }
+        left -= count;
+        i += 4;
+    }
+    (i, left)
+}
+
+/// The number of cells in four spans, from span `i` on.
+fn in_four(spans: &[Span], i: usize) -> usize
+    requires { i + 4 ≤ length spans.now }
+    ensures { length (flat (take (i + 4) (pieces spans.now))) ≡ length (flat (take i (pieces spans.now))) + result }
+{
+    spans[i].count() + spans[i + 1].count() + spans[i + 2].count() + spans[i + 3].count()
 }
 
 /// The first place at which a cell is one that is looked for.
