@@ -1,10 +1,11 @@
 -- The v-th shown cell is the one that has v shown ones before it; by chunks, and by the flags of one chunk.
 use Rattle.std.proofs.Common.{◌≡◌, ℕ, zero, suc, ◌+◌, ◌<◌, ◌≤◌, Bool, true, false, Some, None, List, [], ◌∷◌, filter, take, length, slice_get, get_or, refl, sym, ap, ◌∙◌, arith}
-use Rattle.std.proofs.lemmas.List.{take_all, length-map, length-append, get_or-map, get_or_default, take-map, take-append-le}
+use Rattle.std.proofs.lemmas.List.{take_all, length-map, length-append, length-take, get_or-map, get_or_default, take-map, take-append-le}
 use Rattle.std.proofs.Math.Seq.{take-append-add}
 use Rattle.std.proofs.Common.{◌++◌, append_assoc, map, if◌then◌else◌}
 use Rattle.std.specs.List.{sum}
-use Rattle.std.proofs.lemmas.List.Concat.{get_or-flat_map}
+use Rattle.std.proofs.lemmas.List.Concat.{get_or-flat_map, length-flat_map}
+use Rattle.std.proofs.lemmas.List.Sums.{sum-map, count_by-le-length, length-filter}
 use Rattle.std.proofs.lemmas.List.Elements.{filter-append}
 use Rattle.lane_rank.specs.Ones.{ones_of, IsSelected}
 use Rattle.tombstone_text.specs.Chunks.{flat, flag_of, shown_in}
@@ -23,6 +24,11 @@ shown_before cs place = length (shown_cells (take place cs))
 -- whether the cell at the place is shown
 abbrev pub TellsShown : List CellData → ℕ → Bool → Type 0
 TellsShown cs place b = (c : CellData) → place < length cs → cell_shown (get_or cs place c) ≡ b
+
+-- no more than the cells there
+pub before_few : (cs : List CellData) (place : ℕ) → shown_before cs place ≤ place
+before_few cs place =
+    omega (arith, length-filter cell_shown (take place cs), count_by-le-length cell_shown (take place cs), length-take place cs)
 
 pub found_at : (cs : List CellData) (place v : ℕ) → place < length cs → TellsShown cs place true → shown_before cs place ≡ v
     → slice_get (shown_places cs) v ≡ Some place
@@ -50,6 +56,36 @@ flat_take (c ∷ cs) (suc i) o p lt le e =
     ∙ take-append-add c (flat cs) (length (flat (take i cs)) + o)
     ∙ ap (λ (zs : List CellData). c ++ zs) (flat_take cs i o (length (flat (take i cs)) + o) (omega arith) le refl)
     ∙ sym (append_assoc c (flat (take i cs)) (take o (get_or cs i [])))
+
+-- the cells of the chunks in front of one
+front_long : (cs : List (List CellData)) (i : ℕ) → sum (take i (map (λ c. length c) cs)) ≡ length (flat (take i cs))
+front_long cs i =
+    ap sum (take-map (λ (c : List CellData). length c) i cs) ∙ sum-map (λ (c : List CellData). length c) (take i cs)
+    ∙ sym (length-flat_map (λ (c : List CellData). c) (take i cs))
+
+-- the chunk of a place is there, and long enough
+pub part_there : (cs : List (List CellData)) (i o p : ℕ) → IsPart (map (λ c. length c) cs) i o p
+    → (i < length cs) × (o < length (get_or cs i []))
+part_there cs i o p part =
+    let lt : i < length cs = omega (arith, part.part, length-map cs (λ (c : List CellData). length c)) in
+    (lt, omega (arith, part.within, get_or-map (λ (c : List CellData). length c) cs i [] 0 lt))
+
+-- the shown cells in front of a place in a chunk: those of the chunks in front of it, and those that its flags tell
+pub front_count : (cs : List (List CellData)) (i o p : ℕ) → i < length cs → o ≤ length (get_or cs i []) → length (flat (take i cs)) + o ≡ p
+    → shown_before (flat cs) p ≡ shown_in (flat (take i cs)) + ones_of (take o (map flag_of (get_or cs i [])))
+front_count cs i o p lt le e =
+    ap (λ (s : List CellData). length (filter cell_shown s)) (flat_take cs i o p lt le e)
+    ∙ ap (λ (s : List CellData). length s) (filter-append cell_shown (flat (take i cs)) (take o (get_or cs i [])))
+    ∙ length-append (filter cell_shown (flat (take i cs))) (filter cell_shown (take o (get_or cs i [])))
+    ∙ ap (λ n. shown_in (flat (take i cs)) + n)
+    (sym (ones-flags (take o (get_or cs i []))) ∙ ap ones_of (sym (take-map flag_of o (get_or cs i []))))
+
+-- the same of the cell at a place of the text
+pub part_count : (cs : List (List CellData)) (i o p : ℕ) → IsPart (map (λ c. length c) cs) i o p
+    → shown_before (flat cs) p ≡ shown_in (flat (take i cs)) + ones_of (take o (map flag_of (get_or cs i [])))
+part_count cs i o p part =
+    let there = part_there cs i o p part in
+    front_count cs i o p there.0 (omega (arith, there.1)) (omega (arith, front_long cs i, part.place))
 
 flag_shown : (c : CellData) (b : Bool) → flag_of c ≡ 1 → cell_shown c ≡ b → b ≡ true
 flag_shown c true e s = refl
@@ -81,13 +117,8 @@ found_in_chunk cs i before at start v part one from =
     ∙ ap (λ (d : CellData). cell_shown d)
     (get_or-flat_map (λ (d : List CellData). d) cs i at [] c lt within ∙ get_or_default (get_or cs i []) at c blank within)
     ∙ shown in
-    let front : shown_before (flat cs) (start + at) ≡ shown_in (flat (take i cs)) + shown_in (take at (get_or cs i [])) =
-    ap (λ (s : List CellData). length (filter cell_shown s)) (flat_take cs i at (start + at) lt (omega arith) (sym place))
-    ∙ ap (λ (s : List CellData). length s) (filter-append cell_shown (flat (take i cs)) (take at (get_or cs i [])))
-    ∙ length-append (filter cell_shown (flat (take i cs))) (filter cell_shown (take at (get_or cs i []))) in
+    let front = front_count cs i at (start + at) lt (omega arith) (sym place) in
     let sums : sum (take i (map shown_in cs)) ≡ shown_in (flat (take i cs)) = ap sum (take-map shown_in i cs) ∙ sum-shown (take i cs) in
-    let ones : ones_of (take at (map flag_of (get_or cs i []))) ≡ shown_in (take at (get_or cs i [])) =
-    ap ones_of (take-map flag_of at (get_or cs i [])) ∙ ones-flags (take at (get_or cs i [])) in
     let sought = part.place in
     let count = one.before in
     found_at (flat cs) (start + at) v there tells (omega arith)

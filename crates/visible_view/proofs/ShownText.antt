@@ -24,7 +24,7 @@ flagged_shown (c ∷ cs) (t ∷ ts) = by (cell_shown c) (flagged_shown cs ts)
     by false rest = rest
 
 -- one flag more with its character
-flagged_next : (fs ts : List ℕ) (k : ℕ) → k < length fs → length ts ≡ length fs
+pub flagged_next : (fs ts : List ℕ) (k : ℕ) → k < length fs → length ts ≡ length fs
     → flagged (take (suc k) fs) (take (suc k) ts) ≡ flagged (take k fs) (take k ts)
     ++ (if get_or fs k 0 == 1 then get_or ts k 0 ∷ [] else [])
 flagged_next [] ts k lt e = absurd (omega (arith, lt))

@@ -1,10 +1,10 @@
 //! Positions among the shown characters, and the places of their cells.
 
-ghost use Rattle.std.specs.Prelude.{◌≡◌, ℕ, suc, ◌<◌, ◌≤◌, ◌↔◌, length, slice_get, slice_index_or, IsSome, IfSome};
+ghost use Rattle.std.specs.Prelude.{◌≡◌, ℕ, suc, ◌<◌, ◌≤◌, ◌↔◌, length, take, slice_get, slice_index_or, IsSome, IfSome};
 ghost use Rattle.ttf_form.specs.Cells.{CellData, cell_shown};
 ghost use Rattle.visible_view.specs.View.{shown_cells, shown_places, places_after};
 
-use lane_rank::select;
+use lane_rank::{prefix_ones, select};
 use tombstone_text::Cells;
 
 /// The number of shown cells. It is kept with the cells and not counted.
@@ -43,6 +43,20 @@ pub fn model_place(cells: &Cells, v: u32) -> Option<u32>
     }
 }
 
+/// How many shown cells stand before a place, which counts all cells and may be their end. The chunk of the place is found by the kept
+/// numbers of cells, and the shown ones of the chunks before it by those of shown cells, so that only the flags of that chunk are
+/// looked at.
+pub fn visible_before(cells: &Cells, place: u32) -> u32
+    requires { place ≤ length cells.now.cells }
+    ensures { result ≡ length (shown_cells (take place cells.now.cells)) }
+{
+    if place < cells.len() {
+        shown_before_cell(cells, place)
+    } else {
+        cells.shown_len()
+    }
+}
+
 /// The place of the `v`-th shown cell, if there is one.
 fn place_of_visible(cells: &Cells, v: u32) -> Option<u32>
     ensures { result ≡ slice_get (shown_places cells.now.cells) v }
@@ -66,4 +80,14 @@ fn place_of_shown(cells: &Cells, v: u32) -> u32
         Some(at) => start + at,
         None => unreachable!(),
     }
+}
+
+/// How many shown cells stand before the cell at a place.
+fn shown_before_cell(cells: &Cells, place: u32) -> u32
+    requires { place < length cells.now.cells }
+    ensures { result ≡ length (shown_cells (take place cells.now.cells)) }
+{
+    cells.known();
+    let (i, at) = cells.place_chunk(place);
+    cells.shown_start(i) + prefix_ones(cells.chunk_flags(i), at)
 }
