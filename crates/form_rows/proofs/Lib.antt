@@ -20,4 +20,5 @@ pub mod TextForms
 pub mod BlockPasses
 pub mod Thresholds
 pub mod Turns
+pub mod Crossings
 pub mod CallerLemmas

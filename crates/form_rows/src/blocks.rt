@@ -18,12 +18,18 @@ use std::marker::Model;
 /// The greatest number of forms in a block.
 const SIZE: usize = 32;
 
-/// A list of forms: most of them in blocks, and then the last ones, which aren't enough for a block yet or for which there
-/// was no memory to make one. With them goes the number of cells that they add (`CELLS` where that isn't known).
+/// How often forms are passed before blocks are made of them, which takes as long as one or two passes.
+const WORTH: usize = 2;
+
+/// A list of forms: most of them in blocks, and then the last ones, which aren't enough for a block yet, or weren't passed so often
+/// that blocks would have been worth it, or for which there was no memory to make them. With them goes the number of cells that they
+/// add (`CELLS` where that isn't known).
 #[derive(Drop)]
 pub(crate) struct Blocks<F: Named> {
     blocks: Vec<Block<F>>,
     rest: Vec<F>,
+    // How often forms were passed since blocks were made last.
+    passes: usize,
     len: usize,
     cells: u32,
 }
@@ -48,6 +54,7 @@ impl<F: Named + Copy> Blocks<F> {
         Blocks {
             blocks: Vec::new(alloc),
             rest: Vec::new(alloc),
+            passes: 0,
             len: 0,
             cells: 0,
         }
@@ -60,11 +67,11 @@ impl<F: Named + Copy> Blocks<F> {
         let len = forms.len();
         let cells = cells_of(forms.as_slice());
         let mut rest = forms;
-        let mut blocks = Vec::new(*rest.allocator());
-        settle(&mut blocks, &mut rest);
+        rest.shrink_to_fit();
         Blocks {
-            blocks,
+            blocks: Vec::new(*rest.allocator()),
             rest,
+            passes: 0,
             len,
             cells,
         }
@@ -122,7 +129,7 @@ impl<F: Named + Copy> Blocks<F> {
             None => return Err(Memory),
         };
         add_all(&mut self.rest, more)?;
-        settle(&mut self.blocks, &mut self.rest);
+        settle(&mut self.blocks, &mut self.rest, &mut self.passes);
         self.len = len;
         self.cells = self.cells.saturating_add(cells_of(more));
         Ok(())
@@ -141,6 +148,7 @@ impl<F: Named + Copy> Blocks<F> {
         ensures form { result ≡ form_after F.over form self.old }
         ensures row { self.new ≡ row_after F.over form self.old }
     {
+        self.passes = self.passes.saturating_add(1);
         let form = pass_all(form, &mut self.blocks);
         pass_rest(form, &mut self.rest)
     }
@@ -211,13 +219,15 @@ fn pass_rest<F: Named + Copy>(form: F, rest: &mut Vec<F>) -> F
     pass(form, rest)
 }
 
-// Makes blocks of the last forms, if these are enough for one and memory suffices. The list stays.
-fn settle<F: Named + Copy>(blocks: &mut Vec<Block<F>>, rest: &mut Vec<F>)
+// Makes blocks of the last forms, if these are enough for one, there were so many passes that it is worth it, and memory suffices.
+// The list stays.
+fn settle<F: Named + Copy>(blocks: &mut Vec<Block<F>>, rest: &mut Vec<F>, passes: &mut usize)
     ensures { joined blocks.new.items ++ rest.new.items ≡ joined blocks.old.items ++ rest.old.items }
 {
-    if rest.len() < SIZE {
+    if rest.len() < SIZE || *passes < WORTH {
         return;
     }
+    *passes = 0;
     match cut(*rest.allocator(), rest.as_slice()) {
         Ok(more) => move_blocks(blocks, more, rest),
         Err(_) => {}

@@ -31,7 +31,7 @@ use ttf_form::Bases;
 /// The greatest number of forms in all rows that are kept.
 pub const ENTRIES: usize = 1_048_576;
 
-// The number of forms in all rows from which on only rows are kept that cost much to make.
+// The number of forms in all rows from which on only rows are kept that cost much to make, and the last of the others.
 const CHEAP_ENTRIES: usize = 8_192;
 
 /// The row of what an author knew when it made its last insert or delete, with that.
@@ -47,6 +47,8 @@ pub struct Rows<F: Named> {
     kept: IndexMap<u16, AuthorRow<F>>,
     forms: usize,
     firsts: Option<FirstMembers>,
+    // The author of the row that is kept though it is cheap to make and there are `CHEAP_ENTRIES` without it.
+    spare: Option<u16>,
 }
 
 impl<F: Named> Model for Rows<F> {
@@ -72,6 +74,7 @@ impl<F: Named + Copy> Rows<F> {
             kept: IndexMap::new(alloc),
             forms: 0,
             firsts: None,
+            spare: None,
         }
     }
 
@@ -82,6 +85,7 @@ impl<F: Named + Copy> Rows<F> {
         self.kept.clear();
         self.forms = 0;
         self.firsts = None;
+        self.spare = None;
     }
 
     // Takes the row of an author out.
@@ -93,23 +97,72 @@ impl<F: Named + Copy> Rows<F> {
         match taken(&mut self.kept, site) {
             Some(own) => {
                 self.forms -= own.row.len();
+                self.spare = other_than(self.spare, site);
                 Some(own)
             }
             None => None,
         }
     }
 
-    // Keeps a row, if memory suffices. Where the rows have too many forms then, all are dropped; and one that is made anew with few
-    // moves isn't kept where they have more than `CHEAP_ENTRIES` then: among many authors that make few operations each before they
-    // know those of the others, rows would take the square of their number.
+    // Whether a row is cheap to make anew, and too long to be kept beside the others but as the spare one.
+    fn is_past(&self, row: &AuthorRow<F>) -> bool {
+        !row.row.is_dear() && row.row.len() > CHEAP_ENTRIES.saturating_sub(self.forms)
+    }
+
+    // The author of the spare row, if there is one.
+    fn spare_author(&self) -> Option<u16> {
+        self.spare
+    }
+
+    // Drops the spare row.
+    fn drop_spare(&mut self)
+        ensures left { (k : AuthorRow F) → Contains self.new.rows k → Contains self.old.rows k }
+        ensures firsts { self.new.firsts ≡ self.old.firsts }
+    {
+        match self.spare_author() {
+            Some(site) => {
+                let _ = self.take(site);
+            }
+            None => {}
+        }
+    }
+
+    // Notes whose row is the spare one.
+    fn note_spare(&mut self, site: u16)
+        ensures { self.new ≡ self.old }
+    {
+        self.spare = Some(site);
+    }
+
+    // Drops the spare row if this one comes in its place.
+    fn make_way(&mut self, row: &AuthorRow<F>)
+        ensures left { (k : AuthorRow F) → Contains self.new.rows k → Contains self.old.rows k }
+        ensures firsts { self.new.firsts ≡ self.old.firsts }
+    {
+        if self.is_past(row) {
+            self.drop_spare();
+            self.note_spare(row.last.site);
+        }
+    }
+
+    // Keeps a row, if memory suffices. Of those that are made anew with few moves only the last is kept past `CHEAP_ENTRIES`, for an
+    // author that goes on before others do: among many authors that make few operations each before they know those of the others,
+    // rows would take the square of their number.
     fn put(&mut self, row: AuthorRow<F>)
         ensures rows { (k : AuthorRow F) → Contains self.new.rows k → Contains self.old.rows k ⊎ (row ≡ k) }
         ensures bound { forms_in self.new.rows ≤ ENTRIES }
         ensures firsts { self.new.firsts ≡ self.old.firsts }
     {
-        if !row.row.is_dear() && row.row.len() > CHEAP_ENTRIES.saturating_sub(self.forms) {
-            return;
-        }
+        self.make_way(&row);
+        self.keep(row);
+    }
+
+    // Keeps a row, if memory suffices. Where the rows have too many forms then, all are dropped.
+    fn keep(&mut self, row: AuthorRow<F>)
+        ensures rows { (k : AuthorRow F) → Contains self.new.rows k → Contains self.old.rows k ⊎ (row ≡ k) }
+        ensures bound { forms_in self.new.rows ≤ ENTRIES }
+        ensures firsts { self.new.firsts ≡ self.old.firsts }
+    {
         if may_come(row.row.len(), self.forms) {
             self.forms = forms_with(&mut self.kept, row, self.forms);
         } else {
@@ -256,6 +309,14 @@ fn taken<F: Named + Copy>(kept: &mut IndexMap<u16, AuthorRow<F>>, site: u16) -> 
             Some((_, own)) => Some(own),
             None => None,
         },
+        None => None,
+    }
+}
+
+// The site, unless it is this one.
+fn other_than(it: Option<u16>, site: u16) -> Option<u16> {
+    match it {
+        Some(other) => { if other == site { None } else { it } }
         None => None,
     }
 }

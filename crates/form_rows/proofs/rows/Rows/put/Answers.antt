@@ -1,8 +1,6 @@
-use Rattle.std.proofs.Common.{◌≡◌, ◌⊎◌, Contains, subst}
-use Rattle.form_rows.specs.Kept.{RowsData}
+use Rattle.std.proofs.Common.{inl, inr}
 use Rattle.form_rows.proofs.rows.Rows.put.Goals as goal
 
-pub returns-then-may_come-clause-rows : goal.returns-then-may_come-clause-rows
-returns-then-may_come-clause-rows g c k there =
-    subst (λ (r : RowsData g.row.F.Denot). Contains r.rows k ⊎ (c.args.row ≡ k)) c.self.view_is
-    (c.forms_with-self-inside.ensures.rows k there)
+pub returns-clause-rows : goal.returns-clause-rows
+returns-clause-rows g c k there =
+    elim (c.keep.ensures.rows k there) [ inl left ↦ inl (c.make_way.ensures.left k left) | inr is ↦ inr is ]
