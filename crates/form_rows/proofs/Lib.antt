@@ -19,6 +19,7 @@ pub mod Counts
 pub mod TextForms
 pub mod BlockPasses
 pub mod Thresholds
+pub mod Moved
 pub mod Turns
 pub mod Crossings
 pub mod CallerLemmas
