@@ -1,7 +1,7 @@
 //! The integrated operations of a site, with what they made of the text.
 
 ghost use Rattle.std.specs.Prelude.{◌≡◌, ◌+◌, ◌<◌, ◌≤◌, ◌↔◌, ◌++◌, ◌∷◌, true, false, List, []};
-ghost use Rattle.std.specs.Prelude.{IsTrue, IsNone, OnOk, OnErr, IfOk, IfSome, length, option_map, slice_get, vec_len, vec_capacity};
+ghost use Rattle.std.specs.Prelude.{IsTrue, IsNone, OnOk, OnErr, IfOk, IfSome, drop, fold, length, option_map, slice_get, vec_len, vec_capacity};
 ghost use Rattle.op_name.specs.declared.member.Member.{Member};
 ghost use Rattle.op_name.specs.declared.member.Member.TheVariants.{Original};
 ghost use Rattle.context_diff.specs.Bases.{base_has};
@@ -23,7 +23,7 @@ ghost use Rattle.transform_rec.specs.Histories.{family_in, MayBeAddedTo};
 ghost use Rattle.undo_group.specs.BaseForms.{base_form};
 ghost use Rattle.form_rows.specs.Names.{insert_of};
 ghost use Rattle.form_rows.specs.Kept.{IsFormWith, empty_rows};
-ghost use Rattle.form_rows.specs.Stretches.{AreNoted};
+ghost use Rattle.form_rows.specs.Stretches.{AreNoted, place_after};
 ghost use Rattle.fixed_replay.specs.Replayed.{IsReplayed, AreCharacters};
 ghost use Rattle.cot_site.specs.Commands.{place_of_shown, place_behind};
 ghost use Rattle.cot_site.specs.Sites.{AreExecuted, AreCached, IsFormOf, KeepsForms};
@@ -130,6 +130,21 @@ impl Replica {
         ensures none { IsNone result ↔ (length self.now.history ≤ i) }
     {
         self.forms.get(i as usize)
+    }
+
+    /// Notes how places move over the executed forms, as far as there is memory for it. Nothing else changes.
+    pub fn note_moves(&mut self)
+        ensures { self.new ≡ self.old }
+    {
+        let _ = self.passages.note(self.forms.as_slice());
+    }
+
+    /// Where what stood at a place once the first `from` operations were executed stands after all of them.
+    pub fn moved(&self, place: u32, from: u32) -> u32
+        ensures { result ≡ fold place_after place (drop from self.now.forms) }
+    {
+        self.passages
+            .moved(place, self.forms.as_slice(), from as usize)
     }
 
     /// The form that was noted of the key's member at the key's context; None exactly where none was. It takes no memory.

@@ -1,6 +1,6 @@
 //! The site: its parts, what contracts see of it, and the calls that only read.
 
-ghost use Rattle.std.specs.Prelude.{◌≡◌, ◌<◌, ◌≤◌, ◌↔◌, ◌++◌, [], OnOk, OnErr, IfOk, IfSome, IsNone, length, option_map, slice_get};
+ghost use Rattle.std.specs.Prelude.{◌≡◌, ◌<◌, ◌≤◌, ◌↔◌, ◌++◌, [], OnOk, OnErr, IfOk, IfSome, IsNone, drop, fold, length, option_map, slice_get};
 ghost use Rattle.context_diff.specs.Operations.{IsWellFormed};
 ghost use Rattle.context_diff.specs.Histories.{context_of_all, IsValid};
 ghost use Rattle.context_diff.specs.Replays.{shown, text_of};
@@ -9,6 +9,7 @@ ghost use Rattle.site_answers.specs.declared.verdict.Verdict.TheVariants.{Integr
 ghost use Rattle.cot_site.specs.Verdicts.{verdict_of};
 ghost use Rattle.ttf_form.specs.Cells.{applied};
 ghost use Rattle.form_cache.specs.Entries.{form_at, used};
+ghost use Rattle.form_rows.specs.Stretches.{place_after};
 ghost use Rattle.transform_rec.specs.Executing.{executed};
 ghost use Rattle.fixed_replay.specs.Replayed.{IsReplayed, AreCharacters};
 ghost use Rattle.cot_site.specs.Sites.{AreExecuted, AreCached, AllFormed, IsFormOf, state_of};
@@ -128,6 +129,28 @@ impl Site {
         ensures none { IsNone result ↔ (length self.now.history ≤ i) }
     {
         self.replica.executed(i)
+    }
+
+    /// Notes how places move over the operations that were executed since it was called last, 256 of them at a time, as far as there is
+    /// memory for it: some 2 KB for 256 operations. So `moved` costs little afterwards, and undos of old operations, which do the same. A
+    /// site at which nobody asks pays nothing. Nothing that contracts see changes.
+    pub fn note_moves(&mut self)
+        ensures { self.new ≡ self.old }
+    {
+        self.replica.note_moves();
+    }
+
+    /// Where what stood at a place once the first `from` operations were executed stands now: each insert that was executed since at
+    /// its place or before it moves it on by its cells, but not past the greatest place. Places count all cells, shown or hidden, from
+    /// 0; from `executed` on, what stands at a form's place once it was executed is sought with `from` one past its operation's index.
+    ///
+    /// Where `note_moves` was called it takes a search for each whole stretch of 256 forms since, and a step for each form before the
+    /// first of these and after the last one. It takes a step for each form that was executed after the last such call, or undo, and where
+    /// there was no memory for the notes.
+    pub fn moved(&self, place: u32, from: u32) -> u32
+        ensures { result ≡ fold place_after place (drop from self.now.forms) }
+    {
+        self.replica.moved(place, from)
     }
 
     /// The form that the site's cache has of the key's member at the key's context: the only one that inclusion
