@@ -1,13 +1,13 @@
 //! The cells that the last operations of a site touched.
 
-ghost use Rattle.std.specs.Prelude.{◌≡◌, ◌*◌, ◌+◌, ◌<◌, ◌≤◌, ◌↔◌, [], Some, IfOk, IfSome, IsTrue, drop, fold, length, slice_get};
+ghost use Rattle.std.specs.Prelude.{◌≡◌, ◌*◌, ◌+◌, ◌/◌, ◌<◌, ◌≤◌, ◌↔◌, [], Some, IfOk, IfSome, IsTrue, length, min, slice_get};
 ghost use Rattle.context_diff.specs.Operations.{OpData};
 ghost use Rattle.context_diff.specs.Ops.{data_of};
 ghost use Rattle.ttf_form.specs.Cells.{applied};
 ghost use Rattle.transform_rec.specs.Executing.{executed};
 ghost use Rattle.fixed_replay.specs.Replayed.{IsReplayed};
 ghost use Rattle.touched_cells.specs.Touched.{name_touched, ArePlacesTouched, IsBearer};
-ghost use Rattle.touched_cells.specs.Code.Seeking.{place_after, AreWith};
+ghost use Rattle.touched_cells.specs.Code.Seeking.{AreWith};
 
 use crate::seeking::{add_deleted, add_insert};
 use context_diff::{Book, Op};
@@ -16,14 +16,14 @@ use form_rows::Placed;
 use op_name::{LETTERS, Memory, Name};
 use std::alloc::Global;
 use tombstone_text::Cells;
-use ttf_form::Form;
 
 /// The places of the cells that the operations from the `from`-th on touched, counted from 0, rising: all cells of an insert, the cell
 /// that a delete hit, and for an undo or a redo those of the insert or delete that it is of. None where a look at all cells costs less,
 /// or where a cell isn't found where it is expected; then whoever asks looks at all cells.
 ///
-/// To bring the places of k forms over those that were executed after them takes k² / 2 steps, so None is answered at once where k² is
-/// more than 16 times the number of cells, to which 256 are added. The cells of an insert are sought from its first one on, between others'
+/// To bring the place of one of k forms over those that were executed after it takes no more than k steps; nor than 512 and a search for
+/// each stretch of 256 forms between, which counts for 32, where `Site::note_moves` was called. So None is answered at once where k times
+/// the lesser of k and 512 + k / 8 is more than 16 times the number of cells, to which 256 are added. The cells of an insert are sought from its first one on, between others'
 /// that stand among them: in all at no more cells is looked than there are, and 256 for each operation.
 pub fn touched(alloc: Global, site: &Site, from: u32) -> Result<Option<Vec<u32>>, Memory>
     requires { from ≤ length site.now.history }
@@ -50,9 +50,17 @@ pub fn touched(alloc: Global, site: &Site, from: u32) -> Result<Option<Vec<u32>>
 
 // Whether to bring the places of so many operations to where they are now costs less than a look at all cells.
 fn is_few(operations: u32, cells: u32) -> bool
-    ensures { IsTrue result ↔ (operations * operations ≤ 16 * (cells + 256)) }
+    ensures { IsTrue result ↔ (operations * min operations (512 + operations / 8) ≤ 16 * (cells + 256)) }
 {
-    u64::from(operations) * u64::from(operations) <= 16 * (u64::from(cells) + 256)
+    u64::from(operations) * u64::from(steps(operations)) <= 16 * (u64::from(cells) + 256)
+}
+
+// How many steps it takes at most to bring a place over so many forms: over those of two stretches one by one, and over each stretch
+// between by a search.
+fn steps(forms: u32) -> u32
+    ensures { result ≡ min forms (512 + forms / 8) }
+{
+    forms.min(512 + forms / 8)
 }
 
 // At how many cells is looked for those of one operation, of so many: its share of all cells, and as many as an insert may have.
@@ -72,7 +80,7 @@ fn add_touched(site: &Site, i: u32, reach: u32, places: &mut Vec<u32>) -> Result
     match book.op(i) {
         Some(op) => match site.executed(i) {
             Some(form) => {
-                let place = brought(site, form.at(), i + 1);
+                let place = site.moved(form.at(), i + 1);
                 add_bearers(book, site.cells(), &name_touched(op), place, reach, places)
             }
             None => unreachable!(),
@@ -88,32 +96,6 @@ fn name_touched(op: &Op) -> Name
     match op {
         Op::Insert { name, .. } | Op::Delete { name, .. } => *name,
         Op::Undo { target, .. } => *target,
-    }
-}
-
-// Where what stood at a place once the operations before the `from`-th were executed stands now.
-fn brought(site: &Site, place: u32, from: u32) -> u32
-    requires { from ≤ length site.now.history }
-    ensures { result ≡ fold place_after place (drop from site.now.forms) }
-{
-    site.known();
-    let mut now = place;
-    for j in from..site.book().len() {
-        match site.executed(j) {
-            Some(form) => now = place_after(now, form),
-            None => unreachable!(),
-        }
-    }
-    now
-}
-
-// Where what stood at a place stands once the form was executed.
-fn place_after(place: u32, form: &Form) -> u32
-    ensures { result ≡ place_after place form.now }
-{
-    match form {
-        Form::Ins(ins) if ins.place <= place => place.saturating_add(u32::from(ins.len)),
-        _ => place,
     }
 }
 

@@ -1,20 +1,10 @@
 -- Where cells are sought, and which places a list has once they are found.
-use Rattle.std.specs.Prelude.{◌≡◌, ◌⊎◌, ◌↔◌, ℕ, ◌<◌, ◌≤◌, List, Contains, Some, min, slice_get}
+use Rattle.std.specs.Prelude.{◌≡◌, ◌⊎◌, ◌↔◌, ℕ, ◌<◌, ◌≤◌, List, Contains, Some, slice_get}
 use Rattle.op_name.specs.NameData.{NameData}
 use Rattle.context_diff.specs.Operations.{OpData}
 use Rattle.context_diff.specs.Replays.{Cell}
-use Rattle.ttf_form.specs.declared.form.Form.{Form}
-use Rattle.ttf_form.specs.declared.form.Form.TheVariants.{Ins as Insert, Cover as Covered}
-use Rattle.ttf_form.specs.declared.include.TheConstants.{CELLS}
-use Rattle.ttf_form.specs.Forms.{ins_extent}
-use Rattle.ttf_form.specs.Places.{cover_place}
 use Rattle.ttf_form.specs.Cells.{CellData}
 use Rattle.touched_cells.specs.Touched.{IsDeletedBy, IsBearer, name_touched}
-
--- where the cell at a place stands once a form was executed, as far as places go
-abbrev pub place_after : ℕ → Form → ℕ
-place_after p (Insert a) = min (cover_place p a.place (ins_extent a)) CELLS
-place_after p (Covered c) = p
 
 -- at most one place is such
 abbrev pub AtMostOne : (ℕ → Type 0) → Type 0
