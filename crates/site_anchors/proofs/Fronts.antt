@@ -8,7 +8,7 @@ use Rattle.site_anchors.specs.Anchors.{is_same}
 use Rattle.site_anchors.proofs.Cells.{one_hit, one_miss, itself, same_cell}
 
 -- an element that stands at a place and passes is counted
-counted_at : {A : Type 0} (p : A → Bool) (xs : List A) (i : ℕ) (x : A) → slice_get xs i ≡ Some x → p x ≡ true → 1 ≤ count p xs
+pub counted_at : {A : Type 0} (p : A → Bool) (xs : List A) (i : ℕ) (x : A) → slice_get xs i ≡ Some x → p x ≡ true → 1 ≤ count p xs
 counted_at {A} p [] i x at e = let none : ◌≡◌ {A = Option A} None (Some x) = at in absurd (cc)
 counted_at p (y ∷ ys) zero x at e =
     let is : y ≡ x = cc in

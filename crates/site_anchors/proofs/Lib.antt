@@ -1,4 +1,4 @@
-pub mod Chunks
 pub mod Fronts
 pub mod Cells
 pub mod Told
+pub mod Listed

@@ -22,9 +22,9 @@ use Rattle.site_anchors.specs.declared.anchors.Side.{Side}
 use Rattle.site_anchors.specs.declared.anchors.Side.TheVariants.{Left, Right}
 use Rattle.site_anchors.specs.declared.anchors.Anchor.{Anchor}
 use Rattle.site_anchors.specs.declared.anchors.Anchor.TheVariants.{Start, End, After, Before}
-use Rattle.site_anchors.specs.Anchors.{cell_at, id_of, is_same, has_cell, cells_before, shown_before, shown_up_to, where_had, place_told, anchors_of}
+use Rattle.site_anchors.specs.Anchors.{cell_at, id_of, is_same, has_cell, cells_before, shown_before, shown_up_to, where_had, place_told, anchors_of, IsUnknown}
 use Rattle.site_anchors.proofs.Cells.{one_if, one_hit, one_miss, stands_once, same_cell, itself}
-use Rattle.site_anchors.proofs.Fronts.{front_is, front_within, up_to_within, kept_there, kept_behind}
+use Rattle.site_anchors.proofs.Fronts.{counted_at, front_is, front_within, up_to_within, kept_there, kept_behind}
 
 -- ---- by the cells of a site
 
@@ -93,6 +93,17 @@ there_among h cs c valid is has =
     subst (λ (l : List Cell). Contains l c) (sym is.cells)
     (in_contains c (replay_of h) (counted_in c (replay_of h) (there_once h c valid has)))
 
+-- what stands among the cells the history has
+pub stood_had : (h : List OpData) (cs : List CellData) (c : Cell) (p : ℕ) → IsValid h → IsReplayed h cs → slice_get (cells_of cs) p ≡ Some c
+    → has_cell h c ≡ true
+stood_had h cs c p valid is got =
+    let there : slice_get (replay_of h) p ≡ Some c = ap (λ (l : List Cell). slice_get l p) (sym is.cells) ∙ got in
+    let some = counted_at (is_same c) (replay_of h) p c there (itself c) in
+    elim (cases_Bool (has_cell h c)) [
+      | inl has ↦ has
+      | inr miss ↦ absurd (omega (arith, some, stands_once h c valid, ap one_if miss))
+    ]
+
 -- what is found by its name and offset is that cell
 pub found_at : (id : CellId) (cs : List CellData) (p : ℕ) → Some p ≡ position (is_cell id) cs
     → slice_get (cells_of cs) p ≡ Some (cell_at id)
@@ -116,6 +127,24 @@ where_some h c n v e = elim (cases_Bool (has_cell h c)) [
   | inl has ↦ (has, let same : Some n ≡ Some v = where_is h c n n has refl ∙ e in cc)
   | inr miss ↦ let none : None ≡ Some v = where_not h c n miss ∙ e in absurd (cc)
 ]
+
+where_none : (h : List OpData) (c : Cell) (n : ℕ) (r : Option ℕ) → r ≡ where_had h c n → IsNone r ↔ (has_cell h c ≡ false)
+where_none h c n r e = elim (cases_Bool (has_cell h c)) [
+  | inl has ↦ let some : r ≡ Some n = e ∙ sym (where_is h c n n has refl) in (
+    λ none. absurd (true≢false (sym (ap (λ (o : Option ℕ). is_some o) some) ∙ none)),
+    λ miss. absurd (true≢false (sym has ∙ miss)),
+  )
+  | inr miss ↦ (λ none. miss, λ _. ap (λ (o : Option ℕ). is_some o) (e ∙ sym (where_not h c n miss)))
+]
+
+-- none has a place exactly beside a cell that the history hasn't
+pub answer_none : (h : List OpData) (a : Anchor) (r : Option ℕ) → r ≡ place_told h a → IsNone r ↔ IsUnknown h a
+answer_none h Start r e =
+    (λ none. true≢false (sym (ap (λ (o : Option ℕ). is_some o) e) ∙ none), λ never. absurd never)
+answer_none h End r e =
+    (λ none. true≢false (sym (ap (λ (o : Option ℕ). is_some o) e) ∙ none), λ never. absurd never)
+answer_none h (After id) r e = where_none h (cell_at id) (shown_up_to h (cell_at id)) r e
+answer_none h (Before id) r e = where_none h (cell_at id) (shown_before h (cell_at id)) r e
 
 -- an anchor's place is one of the text
 pub told_within : (h : List OpData) (a : Anchor) (v : ℕ) → IsValid h → place_told h a ≡ Some v → v ≤ length (shown h)

@@ -6,17 +6,17 @@ ghost use Rattle.ttf_form.specs.Cells.{cell_key};
 ghost use Rattle.visible_view.specs.View.{shown_cells};
 ghost use Rattle.site_anchors.specs.Anchors.{anchors_of, id_of, place_told, IsUnknown};
 
-use crate::standing::{cell_place, shown_before};
+use crate::standing::cell_place;
 use cot_site::Site;
 use tombstone_text::{CellId, Cells};
-use visible_view::cell_of_visible;
+use visible_view::{cell_of_visible, visible_before};
 
 /// Which of its two neighbours an anchor keeps to.
 #[derive(Clone, Copy, Debug, PartialEq, Eq)]
 pub enum Side {
-    /// The character in front of it: what is inserted at its place comes behind it.
+    /// The character in front of it.
     Left,
-    /// The character behind it: what is inserted at its place comes in front of it.
+    /// The character behind it.
     Right,
 }
 
@@ -98,43 +98,49 @@ fn id_at(cells: &Cells, place: u32) -> Option<CellId>
 /// How many shown characters stand before the anchor at the site. None exactly where the site's history hasn't its cell, as where the
 /// insert has yet to come. A hidden cell has its place as well: between the characters that are shown before and behind it.
 ///
-/// It costs a short step for each operation that was executed since the insert of the cell, and a look at each chunk of 512 cells up to
-/// the cell.
+/// It costs what `Site::moved` costs from the insert of the cell on, and what finding a character's place does.
 pub fn place_of(site: &Site, anchor: &Anchor) -> Option<u32>
     ensures place { result ≡ place_told site.now.history anchor.now }
     ensures none { IsNone result ↔ IsUnknown site.now.history anchor.now }
     ensures within { IfSome result (λ v. v ≤ length (shown site.now.history)) }
 {
     site.known();
+    place_seen(site, anchor, None)
+}
+
+/// The same. Where the anchor's cell was seen at a place, that is looked at first.
+pub(crate) fn place_seen(site: &Site, anchor: &Anchor, seen: Option<u32>) -> Option<u32>
+    ensures { result ≡ place_told site.now.history anchor.now }
+{
     match anchor {
         Anchor::Start => Some(0),
         Anchor::End => Some(site.visible_len()),
-        Anchor::After(id) => place_after(site, id),
-        Anchor::Before(id) => place_before(site, id),
+        Anchor::After(id) => place_after(site, id, seen),
+        Anchor::Before(id) => place_before(site, id, seen),
     }
 }
 
 // How many shown characters stand before the cell and with it, where the site has it.
-fn place_after(site: &Site, id: &CellId) -> Option<u32>
+fn place_after(site: &Site, id: &CellId, seen: Option<u32>) -> Option<u32>
     ensures { result ≡ place_told site.now.history (Anchor.After id.now) }
 {
     site.known();
     let cells = site.cells();
     cells.known();
-    match cell_place(site, cells, id) {
-        Some(place) => Some(shown_before(cells, place + 1)),
+    match cell_place(site, cells, id, seen) {
+        Some(place) => Some(visible_before(cells, place + 1)),
         None => None,
     }
 }
 
 // How many stand before it.
-fn place_before(site: &Site, id: &CellId) -> Option<u32>
+fn place_before(site: &Site, id: &CellId, seen: Option<u32>) -> Option<u32>
     ensures { result ≡ place_told site.now.history (Anchor.Before id.now) }
 {
     site.known();
     let cells = site.cells();
-    match cell_place(site, cells, id) {
-        Some(place) => Some(shown_before(cells, place)),
+    match cell_place(site, cells, id, seen) {
+        Some(place) => Some(visible_before(cells, place)),
         None => None,
     }
 }

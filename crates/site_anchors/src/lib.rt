@@ -6,7 +6,10 @@
 
 mod anchors;
 mod laws;
+mod many;
+mod seen;
 mod standing;
 
 pub use anchors::{Anchor, Side, anchor_at, place_of};
 pub use laws::each_cell_stands_once;
+pub use many::places_of;

@@ -1,22 +1,36 @@
-//! Where a cell stands among all cells of a site, and how many shown ones stand in front of it.
+//! Where a cell stands among all cells of a site.
 
-ghost use Rattle.std.specs.Prelude.{◌≡◌, ◌<◌, ◌≤◌, ◌↔◌, true, Some, IsSome, IfSome, IsTrue, length, slice_get, take};
+ghost use Rattle.std.specs.Prelude.{◌≡◌, ◌<◌, ◌↔◌, true, Some, IsSome, IfSome, IsTrue, slice_get};
 ghost use Rattle.std.specs.Option.{option_map_or};
 ghost use Rattle.context_diff.specs.Operations.{cells_put};
 ghost use Rattle.ttf_form.specs.Cells.{cells_of};
 ghost use Rattle.fixed_replay.specs.Replayed.{IsReplayed};
-ghost use Rattle.visible_view.specs.View.{shown_cells};
 ghost use Rattle.site_anchors.specs.Anchors.{cell_at, has_cell};
 
 use context_diff::Book;
 use cot_site::Site;
-use lane_rank::prefix_ones;
 use op_name::Member;
 use tombstone_text::{CellId, Cells};
 use ttf_form::Form;
 
-/// The place, among all cells of the site, of the cell with that name and offset; None exactly where its history hasn't the cell.
-pub(crate) fn cell_place(site: &Site, cells: &Cells, id: &CellId) -> Option<u32>
+/// The place, among all cells of the site, of the cell with that name and offset; None exactly where its history hasn't the cell. If it
+/// was seen at a place, and stands there, it isn't sought.
+pub(crate) fn cell_place(site: &Site, cells: &Cells, id: &CellId, seen: Option<u32>) -> Option<u32>
+    requires { IsReplayed site.now.history cells.now.cells }
+    ensures there { IfSome result (λ p. slice_get (cells_of cells.now.cells) p ≡ Some (cell_at id.now)) }
+    ensures some { IsSome result ↔ (has_cell site.now.history (cell_at id.now) ≡ true) }
+{
+    if let Some(at) = seen {
+        if stands_at(cells, at, id) {
+            site.known();
+            return Some(at);
+        }
+    }
+    sought_place(site, cells, id)
+}
+
+// The same, of a cell that was seen nowhere.
+fn sought_place(site: &Site, cells: &Cells, id: &CellId) -> Option<u32>
     requires { IsReplayed site.now.history cells.now.cells }
     ensures there { IfSome result (λ p. slice_get (cells_of cells.now.cells) p ≡ Some (cell_at id.now)) }
     ensures some { IsSome result ↔ (has_cell site.now.history (cell_at id.now) ≡ true) }
@@ -76,18 +90,13 @@ fn brings(book: &Book, index: u32, offset: u16) -> bool
 // Where a cell came to stand: it was put at its offset behind the place of the executed insert, and each insert that was executed since
 // moved it on by its cells, where it is in front of the cell. No clause says so: whoever calls it looks whether the cell stands there.
 fn followed(site: &Site, index: u32, offset: u16) -> u32 {
-    let mut place = match site.executed(index) {
-        Some(Form::Ins(ins)) => ins.place.saturating_add(u32::from(offset)),
+    match site.executed(index) {
+        Some(Form::Ins(ins)) => site.moved(
+            ins.place.saturating_add(u32::from(offset)),
+            index.saturating_add(1),
+        ),
         _ => 0,
-    };
-    for i in index.saturating_add(1)..site.book().len() {
-        if let Some(Form::Ins(ins)) = site.executed(i) {
-            if ins.place <= place {
-                place = place.saturating_add(u32::from(ins.len));
-            }
-        }
     }
-    place
 }
 
 // Whether the cell at the place is that one.
@@ -98,25 +107,4 @@ fn stands_at(cells: &Cells, place: u32, id: &CellId) -> bool
         Some(cell) => cell.id() == *id,
         None => false,
     }
-}
-
-/// How many shown cells stand before the place: those of the chunks before its chunk, as they are kept, and those that the flags of
-/// its chunk tell.
-pub(crate) fn shown_before(cells: &Cells, place: u32) -> u32
-    requires { place ≤ length cells.now.cells }
-    ensures { result ≡ length (shown_cells (take place cells.now.cells)) }
-{
-    cells.known();
-    let mut seen = 0;
-    let mut at = 0;
-    for i in 0..cells.chunk_count() {
-        let flags = cells.chunk_flags(i);
-        let len = flags.len() as u32;
-        if place - at <= len {
-            return seen + prefix_ones(flags, place - at);
-        }
-        seen += cells.chunk_shown(i);
-        at += len;
-    }
-    seen
 }
