@@ -1,7 +1,7 @@
 -- Cells in chunks: those in front of a cell, with the cell, and how many of them are shown.
-use Rattle.std.proofs.Common.{◌≡◌, ℕ, zero, suc, ◌+◌, ◌<◌, ◌≤◌, List, [], ◌∷◌, ◌++◌, Some, None, length, map, filter, take, get_or, slice_get, inl, inr, sym, ap, ◌∙◌, arith, append_assoc, length-append}
+use Rattle.std.proofs.Common.{◌≡◌, ℕ, zero, suc, ◌+◌, ◌<◌, ◌≤◌, List, [], ◌∷◌, ◌++◌, Some, None, length, map, filter, take, drop, get_or, slice_get, inl, inr, sym, ap, ◌∙◌, arith, append_assoc, length-append}
 use Rattle.std.proofs.lemmas.Bool.{cases_Bool}
-use Rattle.std.proofs.lemmas.List.{length-take-le, take_more, get_or-map}
+use Rattle.std.proofs.lemmas.List.{drop-drop, length-take-le, take_more, get_or-map}
 use Rattle.std.proofs.lemmas.List.Sums.{count_by-le-length, length-filter}
 use Rattle.std.proofs.lemmas.List.Elements.{filter-append}
 use Rattle.std.proofs.lemmas.Option.{get_or_from_slice_get}
@@ -35,9 +35,18 @@ pub chunk_more : (cs : List (List CellData)) (k : ℕ) → k < length cs
     → shown_in (flat (take (k + 1) cs)) ≡ shown_in (flat (take k cs)) + shown_in (get_or cs k [])
 chunk_more cs k lt = ap (λ (l : List CellData). shown_in l) (flat_more cs k lt) ∙ shown-append (flat (take k cs)) (get_or cs k [])
 
-pub chunk_length : (cs : List (List CellData)) (k : ℕ) → k < length cs
-    → length (flat (take (k + 1) cs)) ≡ length (flat (take k cs)) + length (get_or cs k [])
-chunk_length cs k lt = ap (λ (l : List CellData). length l) (flat_more cs k lt) ∙ length-append (flat (take k cs)) (get_or cs k [])
+-- where so many cells of a chunk were read, the first that is left stands at that place, and those behind it are left next
+pub first_at : (xs left : List CellData) (k : ℕ) (x : CellData) → left ≡ drop k xs → slice_get left 0 ≡ Some x → slice_get xs k ≡ Some x
+first_at xs left k x e at = there xs k (ap (λ (l : List CellData). slice_get l 0) (sym e) ∙ at)
+  where
+    there : (ys : List CellData) (j : ℕ) → slice_get (drop j ys) 0 ≡ Some x → slice_get ys j ≡ Some x
+    there [] zero f = f
+    there [] (suc j) f = f
+    there (y ∷ ys) zero f = f
+    there (y ∷ ys) (suc j) f = there ys j f
+
+pub left_rest : (xs left new : List CellData) (k : ℕ) → left ≡ drop k xs → new ≡ drop 1 left → new ≡ drop (k + 1) xs
+left_rest xs left new k e less = less ∙ ap (λ (l : List CellData). drop 1 l) e ∙ drop-drop 1 k xs
 
 -- the cell at a place of a chunk, behind the cells in front of it
 module _ (cs : List (List CellData)) (k i : ℕ) (x : CellData) (lt : k < length cs) (at : slice_get (get_or cs k []) i ≡ Some x) where

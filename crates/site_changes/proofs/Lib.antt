@@ -5,4 +5,3 @@ pub mod Members
 pub mod Places
 pub mod Quiet
 pub mod ShownBefore
-pub mod Stretches

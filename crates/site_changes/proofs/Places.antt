@@ -106,7 +106,7 @@ module _ (c : ContextData) (ds : List CellData) (ps : List ℕ) (quiet : IsQuiet
     ]
 
     -- the next place is behind
-    pub next_more : (j : ℕ) → j < length ps → next_place ps j (length ds) + 1 ≤ next_place ps (j + 1) (length ds)
+    next_more : (j : ℕ) → j < length ps → next_place ps j (length ds) + 1 ≤ next_place ps (j + 1) (length ds)
     next_more j lt = elim (cases_lt (j + 1) (length ps)) [
       | inl more ↦ omega (arith, up j more, get_or_default ps j (length ds) 0 lt, get_or_default ps (j + 1) (length ds) 0 more)
       | inr last ↦ omega (arith, inside j (length ds) lt, get_or_past ps (j + 1) (length ds) last)

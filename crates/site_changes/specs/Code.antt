@@ -1,3 +1,2 @@
--- Words that only the contracts of private functions use: which cells were shown, what was told of them, and how far chunks were passed.
+-- Words that only the contracts of private functions use: which cells were shown, and what was told of them.
 pub mod Marks
-pub mod Fronts

@@ -5,7 +5,6 @@
 #![tactic(auto)]
 
 mod earlier;
-mod fronts;
 mod since;
 mod telling;
 

@@ -1,18 +1,18 @@
 //! Changes that are told of cells, from left to right.
 
-ghost use Rattle.std.specs.Prelude.{◌≡◌, ◌+◌, ◌<◌, [], Some, All, length, take, slice_get, slice_index_or, OnOk, IfOk};
+ghost use Rattle.std.specs.Prelude.{◌≡◌, ◌+◌, ◌<◌, [], Some, All, drop, length, take, slice_get, OnOk, IfOk};
 ghost use Rattle.std.specs.List.Sorted.{IsStrictlyIncreasing};
 ghost use Rattle.tombstone_text.specs.Chunks.{flat, shown_in};
 ghost use Rattle.change_list.specs.Told.{told, HasRoom};
 ghost use Rattle.site_changes.specs.Code.Marks.{mark_of, marks_of, IsQuietBut, TellsOneMore};
 
 use crate::earlier::was_shown;
-use crate::fronts::{Front, shown_before};
 use change_list::{Change, tell};
 use context_vector::Vector;
 use op_name::Memory;
 use std::alloc::Global;
-use tombstone_text::{Cell, Cells};
+use tombstone_text::{Cell, Cells, ChunkCells};
+use visible_view::visible_before;
 
 /// The changes of all cells since the set.
 pub(crate) fn all_changes(alloc: Global, cells: &Cells, at: &Vector) -> Result<Vec<Change>, Memory>
@@ -43,13 +43,8 @@ pub(crate) fn changes_at(
 {
     cells.known();
     let mut changes = Vec::new(alloc);
-    let mut front = Front {
-        chunks: 0,
-        cells: 0,
-        shown: 0,
-    };
     for place in places {
-        let shown = shown_before(cells, *place, &mut front);
+        let shown = visible_before(cells, *place);
         tell_cell(&cell_at(cells, *place), at, shown, &mut changes)?;
     }
     Ok(changes)
@@ -70,21 +65,22 @@ fn tell_chunk(
 {
     cells.known();
     let flags = cells.chunk_flags(chunk);
+    let mut left = cells.chunk_cells(chunk);
     let mut place = front;
     for i in 0..flags.len() {
-        tell_cell(&cell_of(cells, chunk, i), at, place, changes)?;
+        tell_cell(&next_cell(&mut left), at, place, changes)?;
         place += u32::from(flags[i]);
     }
     Ok(())
 }
 
-// The cell at a place of a chunk, which is there.
-fn cell_of(cells: &Cells, chunk: u32, at: usize) -> Cell<'_>
-    requires there { chunk < length cells.now.chunks }
-    requires within { at < length (slice_index_or cells.now.chunks chunk []) }
-    ensures { slice_get (slice_index_or cells.now.chunks chunk []) at ≡ Some result }
+// Takes the first cell that is left, where one is.
+fn next_cell<'a>(left: &mut ChunkCells<'a>) -> Cell<'a>
+    requires { 0 < length left.old }
+    ensures first { slice_get left.old 0 ≡ Some result }
+    ensures rest { left.new ≡ drop 1 left.old }
 {
-    match cells.chunk_cell(chunk, at) {
+    match left.next() {
         Some(cell) => cell,
         None => unreachable!(),
     }

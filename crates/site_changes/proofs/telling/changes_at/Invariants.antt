@@ -1,14 +1,10 @@
--- The cells in front of the next place were told; the chunks that were passed stand in front of it.
-use Rattle.std.proofs.Common.{◌≡◌, ◌≤◌, length, take}
+-- The cells in front of the next place were told.
+use Rattle.std.proofs.Common.{◌≡◌, length, take}
 use Rattle.change_list.specs.Told.{told}
-use Rattle.site_changes.specs.Code.Fronts.{IsFront}
 use Rattle.site_changes.specs.Code.Marks.{marks_of}
 use Rattle.site_changes.proofs.Places.{next_place}
 use Rattle.site_changes.proofs.telling.changes_at.Given as goal
 
 abbrev pub invariant-loop-place : goal.invariant-loop-place
-invariant-loop-place l = record {
-  told : l.changes.items ≡ told (marks_of l.at.set (take (next_place l.places l.place-index (length l.cells.cells)) l.cells.cells));
-  front : IsFront l.cells.chunks l.front;
-  behind : l.front.cells ≤ next_place l.places l.place-index (length l.cells.cells);
-}
+invariant-loop-place l =
+    l.changes.items ≡ told (marks_of l.at.set (take (next_place l.places l.place-index (length l.cells.cells)) l.cells.cells))
