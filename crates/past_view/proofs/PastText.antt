@@ -2,7 +2,8 @@
 use Rattle.std.proofs.Common.{◌≡◌, ℕ, ◌+◌, ◌<◌, ◌≤◌, Bool, true, false, if◌then◌else◌, List, [], ◌∷◌, ◌++◌, length, map, take, drop, get_or, encode_utf8_all, inl, inr, refl, sym, ap, ap₂, ◌∙◌, arith}
 use Rattle.std.specs.Prelude.{Some, None, slice_get}
 use Rattle.std.proofs.lemmas.Bool.{cases_Bool}
-use Rattle.std.proofs.lemmas.List.{length-take-le, take_more}
+use Rattle.std.proofs.lemmas.List.{length-take-le, take_more, get_or-drop, drop-drop}
+use Rattle.std.proofs.lemmas.Option.{get_or_from_slice_get}
 use Rattle.std.proofs.lemmas.Str.{encodes-append}
 use Rattle.op_name.specs.NameData.{NameData, name_eq}
 use Rattle.op_name.specs.declared.member.Member.TheVariants.{Original}
@@ -33,6 +34,16 @@ past_text_more c xs ts k x t long lt is at =
     ap₂ (past_text c) (take_more xs k x lt ∙ ap (λ (y : CellData). take k xs ++ y ∷ []) (sym is))
     (take_more ts k t (omega (arith, lt, long)) ∙ ap (λ (y : ℕ). take k ts ++ y ∷ []) (sym at))
     ∙ past_text-append c (take k xs) (x ∷ []) (take k ts) (t ∷ []) (omega (arith, few, beside))
+
+-- where so many cells of a chunk were read, the first that is left stands at that place, and those behind it are left next
+pub left_first : (xs left : List CellData) (k : ℕ) (x : CellData) → left ≡ drop k xs → slice_get left 0 ≡ Some x → x ≡ get_or xs k x
+left_first xs left k x e at =
+    let same : k + 0 ≡ k = omega arith in
+    sym (get_or_from_slice_get left 0 x x at) ∙ ap (λ (l : List CellData). get_or l 0 x) e ∙ get_or-drop k xs 0 x
+    ∙ ap (λ n. get_or xs n x) same
+
+pub left_rest : (xs left new : List CellData) (k : ℕ) → left ≡ drop k xs → new ≡ drop 1 left → new ≡ drop (k + 1) xs
+left_rest xs left new k e less = less ∙ ap (λ (l : List CellData). drop 1 l) e ∙ drop-drop 1 k xs
 
 -- one chunk more, with its characters
 pub past_chunk_more : (c : ContextData) (cs : List (List CellData)) (ts : List (List ℕ)) (i : ℕ) → map length ts ≡ map length cs

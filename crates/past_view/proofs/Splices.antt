@@ -116,7 +116,7 @@ text-append xs ys ts us e =
     ap encode_utf8_all (chars_where-append cell_shown xs ys ts us e)
     ∙ encodes-append (chars_where cell_shown xs ts) (chars_where cell_shown ys us)
 
-pub shown_count-append : (xs ys : List CellData) → length (shown_cells (xs ++ ys)) ≡ length (shown_cells xs) + length (shown_cells ys)
+shown_count-append : (xs ys : List CellData) → length (shown_cells (xs ++ ys)) ≡ length (shown_cells xs) + length (shown_cells ys)
 shown_count-append xs ys =
     ap (λ (cs : List CellData). length cs) (filter-append cell_shown xs ys) ∙ length-append (shown_cells xs) (shown_cells ys)
 

@@ -1,6 +1,6 @@
 //! The text at a set of members.
 
-ghost use Rattle.std.specs.Prelude.{◌≡◌, ◌∷◌, ◌++◌, ◌<◌, [], Some, length, slice_get, slice_index_or, take, vec_len, encode_utf8, OnOk, OnErr, IfErr, IfSome, IfNone};
+ghost use Rattle.std.specs.Prelude.{◌≡◌, ◌∷◌, ◌++◌, ◌<◌, [], Some, drop, length, slice_get, slice_index_or, take, vec_len, encode_utf8, OnOk, OnErr, IfErr, IfSome, IfNone};
 ghost use Rattle.std.specs.List.{list_any};
 ghost use Rattle.context_diff.specs.Replays.{text_of};
 ghost use Rattle.context_diff.specs.ClosedContexts.{IsClosedContext};
@@ -12,7 +12,7 @@ use context_diff::{Book, closed};
 use context_vector::Vector;
 use cot_site::Site;
 use op_name::{Member, Memory, Name};
-use tombstone_text::{Cell, Cells};
+use tombstone_text::{Cell, Cells, ChunkCells};
 use undo_group::in_force;
 
 /// Why a set of members has no text at a site: the first case that holds.
@@ -135,19 +135,20 @@ fn push_chunk(cells: &Cells, chunk: u32, at: &Vector, out: &mut Vec<u8>) -> Resu
     ensures err { OnErr result (take (vec_len out.old) out.new.items ≡ out.old.items) }
 {
     let text = cells.chunk_text(chunk);
+    let mut left = cells.chunk_cells(chunk);
     for i in 0..text.len() {
-        push_cell(&cell_of(cells, chunk, i), text[i], at, out)?;
+        push_cell(&next_cell(&mut left), text[i], at, out)?;
     }
     Ok(())
 }
 
-// The cell at a place of a chunk, which is there.
-fn cell_of(cells: &Cells, chunk: u32, at: usize) -> Cell<'_>
-    requires there { chunk < length cells.now.chunks }
-    requires within { at < length (slice_index_or cells.now.chunks chunk []) }
-    ensures { slice_get (slice_index_or cells.now.chunks chunk []) at ≡ Some result }
+// Takes the first cell that is left, where one is.
+fn next_cell<'a>(left: &mut ChunkCells<'a>) -> Cell<'a>
+    requires { 0 < length left.old }
+    ensures first { slice_get left.old 0 ≡ Some result }
+    ensures rest { left.new ≡ drop 1 left.old }
 {
-    match cells.chunk_cell(chunk, at) {
+    match left.next() {
         Some(cell) => cell,
         None => unreachable!(),
     }

@@ -3,17 +3,16 @@
 ghost use Rattle.std.specs.Prelude.{◌≡◌, ◌+◌, ◌<◌, ◌≤◌, ◌++◌, ℕ, List, Some, IsTrue, length, take, drop, encode_utf8, encode_utf8_all, slice_get, OnOk, option_map};
 ghost use Rattle.ttf_form.specs.Cells.{CellData, FitsCells, applied, cell_shown, cells_of, put_in, bare_cells, marked_in, text_put};
 ghost use Rattle.ttf_form.specs.Forms.{extent_of};
-ghost use Rattle.visible_view.specs.View.{shown_cells, shown_text};
+ghost use Rattle.visible_view.specs.View.{shown_text};
 ghost use Rattle.ttf_form.specs.declared.form.Form.TheVariants.{Ins as Insert};
 ghost use Rattle.past_view.specs.Code.Playing.{AreApart, MarksOne, shown_beside, text_with, text_without};
 
 use crate::counted::{Counted, nth};
 use crate::past::push_char;
-use lane_rank::prefix_ones;
 use op_name::Memory;
 use tombstone_text::Cells;
 use ttf_form::{Cover, Form, Ins, Mark};
-use visible_view::write_text;
+use visible_view::{visible_before, write_text};
 
 /// Applies a form, with the characters that it brings, to cells whose text this is, and changes the text by what the form changes, at its
 /// place. The text is made anew only where an insert is undone or redone and some insert had several cells (`apart` is false).
@@ -91,7 +90,7 @@ fn play_ins(
     cells.known();
     let form = Form::Ins(*ins);
     cells.reserve(&form)?;
-    let at = byte_at(text, shown_before(cells, ins.place), cells.shown_len());
+    let at = byte_at(text, visible_before(cells, ins.place), cells.shown_len());
     cells.apply(&form, letters);
     put_chars(text, at, letters)
 }
@@ -158,7 +157,7 @@ fn show(cells: &Cells, text: &mut Vec<u8>, place: u32, chars: u32) -> Result<(),
     ensures { OnOk result (text.new.items ≡ text_with cells.now.cells cells.now.text place) }
 {
     cells.known();
-    let at = byte_at(text, shown_before(cells, place), chars);
+    let at = byte_at(text, visible_before(cells, place), chars);
     put_char(text, at, char_at(cells, place))
 }
 
@@ -170,29 +169,8 @@ fn hide(cells: &Cells, text: &mut Vec<u8>, place: u32, chars: u32)
     ensures { text.new.items ≡ text_without cells.now.cells cells.now.text place }
 {
     cells.known();
-    let at = byte_at(text, shown_before(cells, place), chars);
+    let at = byte_at(text, visible_before(cells, place), chars);
     remove(text, at, char_at(cells, place).len_utf8());
-}
-
-// How many shown cells stand before the place: those of the chunks before its chunk, as they are kept, and those that the flags of
-// its chunk tell.
-fn shown_before(cells: &Cells, place: u32) -> u32
-    requires { place ≤ length cells.now.cells }
-    ensures { result ≡ length (shown_cells (take place cells.now.cells)) }
-{
-    cells.known();
-    let mut seen = 0;
-    let mut at = 0;
-    for i in 0..cells.chunk_count() {
-        let flags = cells.chunk_flags(i);
-        let len = flags.len() as u32;
-        if place - at <= len {
-            return seen + prefix_ones(flags, place - at);
-        }
-        seen += cells.chunk_shown(i);
-        at += len;
-    }
-    seen
 }
 
 // Where the first `v` of the `chars` characters of a text end: counted only where some character has more bytes than one.

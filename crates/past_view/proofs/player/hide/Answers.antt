@@ -13,8 +13,8 @@ remove-requires c =
     let x = c.char_at.result in
     let parts = c.requires.text ∙ with_char cs ts p x c.char_at.ensures in
     let at =
-    end_with cs ts p c.known.ensures.long c.deref.result.now c.shown_before.result c.args.chars c.byte_at-at.result c.byte_at-at.ensures
-    c.shown_before.ensures x (c.deref.ensures.value ∙ parts) c.requires.chars in
+    end_with cs ts p c.known.ensures.long c.deref.result.now c.visible_before.result c.args.chars c.byte_at-at.result c.byte_at-at.ensures
+    c.visible_before.ensures x (c.deref.ensures.value ∙ parts) c.requires.chars in
     char_within c.args.text.now.items (text_front cs ts p) (encode_utf8 x) (text_rest cs ts p) c.byte_at-at.result c.len_utf8.result parts
     at c.len_utf8.ensures.len
 
@@ -26,7 +26,7 @@ returns c =
     let x = c.char_at.result in
     let parts = c.requires.text ∙ with_char cs ts p x c.char_at.ensures in
     let at =
-    end_with cs ts p c.known.ensures.long c.deref.result.now c.shown_before.result c.args.chars c.byte_at-at.result c.byte_at-at.ensures
-    c.shown_before.ensures x (c.deref.ensures.value ∙ parts) c.requires.chars in
+    end_with cs ts p c.known.ensures.long c.deref.result.now c.visible_before.result c.args.chars c.byte_at-at.result c.byte_at-at.ensures
+    c.visible_before.ensures x (c.deref.ensures.value ∙ parts) c.requires.chars in
     cut_out c.args.text.now.items (text_front cs ts p) (encode_utf8 x) (text_rest cs ts p) c.remove.new.text.items c.byte_at-at.result
     c.len_utf8.result parts at c.len_utf8.ensures.len c.remove.ensures

@@ -17,8 +17,8 @@ put_chars-requires c =
     ap (λ (l : List ℕ). length l) beside ∙ c.known.ensures.long ∙ ap (λ (l : List CellData). length l) (sym cells) in
     let parts = c.requires.text ∙ (λ i. shown_text (sym cells i) (sym beside i)) ∙ text_split p cs ts long in
     let at =
-    end_at cs ts p long c.deref.result.now c.shown_before.result c.shown_len.result c.byte_at-at.result c.byte_at-at.ensures
-    c.shown_before.ensures (c.deref.ensures.value ∙ parts) (sym (count_split p cs) ∙ sym c.shown_len.ensures) in
+    end_at cs ts p long c.deref.result.now c.visible_before.result c.shown_len.result c.byte_at-at.result c.byte_at-at.ensures
+    c.visible_before.ensures (c.deref.ensures.value ∙ parts) (sym (count_split p cs) ∙ sym c.shown_len.ensures) in
     let rest = shown_text (drop p cs) (drop p ts) in
     place_within c.args.text.now.items (text_front cs ts p) rest c.byte_at-at.result parts at
 
@@ -33,8 +33,8 @@ returns-clause-text c =
     ap (λ (l : List ℕ). length l) beside ∙ c.known.ensures.long ∙ ap (λ (l : List CellData). length l) (sym cells) in
     let parts = c.requires.text ∙ (λ i. shown_text (sym cells i) (sym beside i)) ∙ text_split p cs ts long in
     let at =
-    end_at cs ts p long c.deref.result.now c.shown_before.result c.shown_len.result c.byte_at-at.result c.byte_at-at.ensures
-    c.shown_before.ensures (c.deref.ensures.value ∙ parts) (sym (count_split p cs) ∙ sym c.shown_len.ensures) in
+    end_at cs ts p long c.deref.result.now c.visible_before.result c.shown_len.result c.byte_at-at.result c.byte_at-at.ensures
+    c.visible_before.ensures (c.deref.ensures.value ∙ parts) (sym (count_split p cs) ∙ sym c.shown_len.ensures) in
     let rest = shown_text (drop p cs) (drop p ts) in
     on_ok c.put_chars.result
     (λ put.
