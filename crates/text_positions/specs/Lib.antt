@@ -1,0 +1,3 @@
+pub mod Offsets
+pub mod Laws
+pub mod Code
