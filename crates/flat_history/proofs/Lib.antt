@@ -1,0 +1,10 @@
+pub mod InOrder
+pub mod Alike
+pub mod Judged
+pub mod Extending
+pub mod Opening
+pub mod Executed
+pub mod Hits
+pub mod FlatPlaces
+pub mod Flat
+pub mod WorkedCases

@@ -1,0 +1,4 @@
+pub mod Checkpoints
+pub mod Flat
+pub mod Alike
+pub mod Laws
