@@ -1,0 +1,4 @@
+pub mod Verdicts
+pub mod Twins
+pub mod Making
+pub mod Repeats
