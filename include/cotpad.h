@@ -296,7 +296,7 @@ cotpad_status cotpad_anchor_right(cotpad_site *site, uint32_t place, cotpad_anch
 
 /* How many shown characters stand before the anchor. While its character is hidden, it has a place as well: between the characters that
  * are shown before and behind it; and the character's own again once that is shown again. It costs a short step for each operation that
- * the site integrated since the insert of the character, and a look at each chunk of 512 characters, hidden ones too, up to it. Of
+ * the site integrated since the insert of the character, and what cotpad_name_at does. Of
  * COTPAD_ANCHOR_START and COTPAD_ANCHOR_END nothing but the kind is looked at. Else COTPAD_NO_NAME, where the kind or the name is out of
  * its range, or the offset above 255; or COTPAD_NONE, where the site has no such character, as before its insert is integrated: *place is
  * as it was. */
