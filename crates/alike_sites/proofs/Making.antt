@@ -20,8 +20,7 @@ use Rattle.flat_history.specs.Alike.{IsMadeAfter}
 use Rattle.cot_site.specs.States.{State}
 use Rattle.cot_site.specs.Views.{View, history_view}
 use Rattle.cot_site.specs.Commands.{within_range, next_name, in_context, numbered, turned, local_run, local_delete, local_undo, local_redo}
-use Rattle.cot_site.proofs.LocalOps.{in_context_ok, numbered_ok}
-use Rattle.cot_site.proofs.CallerLemmas.{local_run_next, local_delete_next, local_undo_next, local_redo_next}
+use Rattle.cot_site.proofs.CallerLemmas.{in_context_ok, numbered_ok, local_run_next, local_delete_next, local_undo_next, local_redo_next}
 use Rattle.alike_sites.specs.Twins.{AreAlikeSites}
 use Rattle.alike_sites.proofs.Twins.{sites_alike}
 

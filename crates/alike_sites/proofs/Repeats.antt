@@ -7,8 +7,7 @@ use Rattle.site_answers.specs.declared.verdict.Verdict.TheVariants.{Repeat, Forg
 use Rattle.cot_site.specs.Verdicts.{IsVerdict}
 use Rattle.cot_site.specs.States.{State, after_verdict, judged, delivered}
 use Rattle.cot_site.specs.Releases.{IsSound}
-use Rattle.cot_site.proofs.CallerLemmas.{verdicts_exact}
-use Rattle.cot_site.proofs.Verdicts.{new_unknown}
+use Rattle.cot_site.proofs.CallerLemmas.{verdicts_exact, new_unknown}
 
 module _ (s : State) (o : OpData) (sound : IsSound s) (known : is_known s.history (member_of o) ≡ true) where
   old_after : (v : Verdict) → IsVerdict s.history s.waiting o v → after_verdict v o s ≡ s

@@ -16,8 +16,7 @@ use Rattle.site_answers.specs.declared.verdict.Verdict.{Verdict}
 use Rattle.site_answers.specs.declared.verdict.Verdict.TheVariants.{Repeat, Forged, Waits, NotClosed, PlaceOut, Integrated}
 use Rattle.flat_history.specs.Alike.{AreAlike, IsMadeAfter, AreMadeAfter, AreJudgedAlike}
 use Rattle.flat_history.specs.Flat.{AreExecutedForms, flat_of}
-use Rattle.flat_history.proofs.Flat.{flat_valid, flat_alike}
-use Rattle.flat_history.proofs.Extending.{both_valid, alike_on, judged_on}
+use Rattle.flat_history.proofs.CallerLemmas.{flat_valid, flat_alike, both_valid, alike_on, judged_on}
 use Rattle.cot_site.specs.Sites.{AllFormed}
 use Rattle.cot_site.specs.Verdicts.{verdict_of, first_lacked}
 use Rattle.cot_site.specs.States.{State, held, with_held, with_last, after_verdict, judged, delivered, is_ready, first_ready, without_waiting, delivered_again, released_at, released}

@@ -27,8 +27,7 @@ use Rattle.transform_rec.specs.Histories.{family_in}
 use Rattle.transform_rec.proofs.CallerLemmas.{At, Forms, IsForm, addable_fits, state_after}
 use Rattle.undo_group.specs.BaseForms.{base_form, group_form, original_form}
 use Rattle.undo_group.specs.Laws.Forms.{base_forms_hold}
-use Rattle.fixed_replay.proofs.CallerLemmas.{derived_adds, setting_of, valid_family, valid_own_names}
-use Rattle.fixed_replay.proofs.Editor.{derived_cover}
+use Rattle.fixed_replay.proofs.CallerLemmas.{derived_adds, setting_of, valid_family, valid_own_names, derived_cover}
 use Rattle.flat_history.specs.Checkpoints.{Placed, inserted, deleted, cells_of as cells_by, with_placed, ArePlaced}
 use Rattle.flat_history.specs.Flat.{placed_in}
 

@@ -24,11 +24,7 @@ use Rattle.undo_group.specs.Laws.Forms.{base_forms_hold}
 use Rattle.undo_group.specs.Laws.Inserts.{context_of_original}
 use Rattle.undo_group.specs.Laws.Members.{member_listed}
 use Rattle.fixed_replay.specs.Replayed.{IsDeleter}
-use Rattle.fixed_replay.proofs.CallerLemmas.{executed_replayed, not_both, valid_family, valid_own_names}
-use Rattle.fixed_replay.proofs.CoverStays.{cover_stays}
-use Rattle.fixed_replay.proofs.Editor.{form_inclusion, form_table}
-use Rattle.fixed_replay.proofs.Marks.{same_cell, on_behind, on_stands}
-use Rattle.fixed_replay.proofs.Splits.{Split, split}
+use Rattle.fixed_replay.proofs.CallerLemmas.{executed_replayed, not_both, valid_family, valid_own_names, cover_stays, form_inclusion, form_table, same_cell, on_behind, on_stands, Split, split}
 use Rattle.flat_history.specs.Checkpoints.{Placed, inserted, deleted}
 use Rattle.flat_history.specs.Flat.{placed_in}
 use Rattle.flat_history.proofs.Executed.{b, w}

@@ -23,8 +23,7 @@ use Rattle.undo_group.specs.BaseForms.{AreBaseForms, base_form, group_form, orig
 use Rattle.undo_group.specs.Laws.Forms.{base_forms_hold}
 use Rattle.undo_group.specs.Laws.Inserts.{context_of_original}
 use Rattle.fixed_replay.specs.Insertions.{inserted_by, insertions_of}
-use Rattle.fixed_replay.proofs.CallerLemmas.{computed_executed, executed_replayed, gap_of_whole}
-use Rattle.fixed_replay.proofs.ExecutedForms.{any_list_replayed}
+use Rattle.fixed_replay.proofs.CallerLemmas.{computed_executed, executed_replayed, gap_of_whole, any_list_replayed}
 
 -- an insert without its rank
 abbrev pub insertion : NameData → ℕ → List ℕ → ContextData → Insertion

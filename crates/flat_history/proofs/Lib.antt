@@ -8,3 +8,4 @@ pub mod Hits
 pub mod FlatPlaces
 pub mod Flat
 pub mod WorkedCases
+pub mod CallerLemmas
