@@ -4,17 +4,20 @@ ghost use Rattle.std.specs.Prelude.{◌≡◌, ◌+◌, ◌*◌, ◌<◌, ◌≤
 ghost use Rattle.std.specs.List.{flat_map};
 ghost use Rattle.std.specs.Int.{byte_len, to_be_bytes};
 ghost use Rattle.op_name.specs.NameData.{NameData};
+ghost use Rattle.wire_codec.specs.declared.version.Version.TheVariants.{One};
+ghost use Rattle.wire_codec.specs.declared.listing.Listing.TheVariants.{Names, Runs, LongRuns};
 ghost use Rattle.wire_codec.specs.Versions.{sites};
 ghost use Rattle.wire_codec.specs.Runs.{RunData, run_of, joins, goes_on, in_front, runs_of, runs_width, version_of};
-ghost use Rattle.wire_codec.specs.Spelling.{run_length_bytes, run_bytes, entries_bytes};
+ghost use Rattle.wire_codec.specs.Spelling.{run_bytes, entries_bytes};
 ghost use Rattle.wire_codec.specs.Reading.{may_have};
 ghost use Rattle.wire_codec.specs.Judging.{run_len};
 ghost use Rattle.wire_codec.specs.Code.Puts.{HasRoom, Puts, EntriesIn};
 ghost use Rattle.wire_codec.specs.Code.RunLists.{FitOut};
 
 use crate::listing::Listing;
-use crate::run_reading::{goes_on, joins, version_of};
+use crate::run_reading::{goes_on, joins};
 use crate::runs::Run;
+use crate::version::Version;
 use crate::writing::{put, put_name};
 use context_vector::Entry;
 
@@ -74,16 +77,69 @@ pub(crate) fn count(listing: Listing, entries: &[Entry]) -> u32
     }
 }
 
-fn put_run_length(out: &mut Vec<u8>, listing: Listing, len: u32)
-    requires room { HasRoom out.old (length (run_length_bytes listing len)) }
-    requires few { may_have listing len ≡ true }
-    ensures { Puts out.old out.new (run_length_bytes listing len) }
+// A name with its generation, as version 1 lists it.
+fn put_single(out: &mut Vec<u8>, run: &Run)
+    requires room { HasRoom out.old 7 }
+    requires site { run.now.first.site < sites One }
+    ensures { Puts out.old out.new (run_bytes Names run.now) }
 {
-    match listing {
-        Listing::Names => {}
-        Listing::Runs => put(out, &(len as u16).to_be_bytes()),
-        Listing::LongRuns => put(out, &len.to_be_bytes()),
-    }
+    put_name(out, Version::One, &run.first());
+    put(out, &run.generation().to_be_bytes());
+}
+
+// A run of a frame of version 2, in one piece: lists of undone names fill a log.
+fn put_short_run(out: &mut Vec<u8>, run: &Run)
+    requires room { HasRoom out.old 10 }
+    requires few { may_have Runs run.now.len ≡ true }
+    ensures { Puts out.old out.new (run_bytes Runs run.now) }
+{
+    let site = run.first.site.to_be_bytes();
+    let number = run.first.number.to_be_bytes();
+    let len = (run.len as u16).to_be_bytes();
+    let generation = run.generation.to_be_bytes();
+    put(
+        out,
+        &[
+            site[0],
+            site[1],
+            number[0],
+            number[1],
+            number[2],
+            number[3],
+            len[0],
+            len[1],
+            generation[0],
+            generation[1],
+        ],
+    );
+}
+
+// A run of a state, in one piece.
+fn put_long_run(out: &mut Vec<u8>, run: &Run)
+    requires room { HasRoom out.old 12 }
+    ensures { Puts out.old out.new (run_bytes LongRuns run.now) }
+{
+    let site = run.first.site.to_be_bytes();
+    let number = run.first.number.to_be_bytes();
+    let len = run.len.to_be_bytes();
+    let generation = run.generation.to_be_bytes();
+    put(
+        out,
+        &[
+            site[0],
+            site[1],
+            number[0],
+            number[1],
+            number[2],
+            number[3],
+            len[0],
+            len[1],
+            len[2],
+            len[3],
+            generation[0],
+            generation[1],
+        ],
+    );
 }
 
 fn put_run(out: &mut Vec<u8>, listing: Listing, run: &Run)
@@ -92,9 +148,11 @@ fn put_run(out: &mut Vec<u8>, listing: Listing, run: &Run)
     requires site { run.now.first.site < sites (version_of listing) }
     ensures { Puts out.old out.new (run_bytes listing run.now) }
 {
-    put_name(out, version_of(listing), &run.first());
-    put_run_length(out, listing, run.len());
-    put(out, &run.generation().to_be_bytes());
+    match listing {
+        Listing::Names => put_single(out, run),
+        Listing::Runs => put_short_run(out, run),
+        Listing::LongRuns => put_long_run(out, run),
+    }
 }
 
 // Puts the runs that there are with this one in front of the names.
