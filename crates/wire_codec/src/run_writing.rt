@@ -79,7 +79,7 @@ pub(crate) fn count(listing: Listing, entries: &[Entry]) -> u32
 
 // A name with its generation, as version 1 lists it.
 fn put_single(out: &mut Vec<u8>, run: &Run)
-    requires room { HasRoom out.old 7 }
+    requires room { HasRoom out.old (run_len Names) }
     requires site { run.now.first.site < sites One }
     ensures { Puts out.old out.new (run_bytes Names run.now) }
 {
@@ -87,9 +87,9 @@ fn put_single(out: &mut Vec<u8>, run: &Run)
     put(out, &run.generation().to_be_bytes());
 }
 
-// A run of a frame of version 2, in one piece: lists of undone names fill a log.
+// A run of a frame of version 2, in one piece: such runs are most of a log in which much is undone.
 fn put_short_run(out: &mut Vec<u8>, run: &Run)
-    requires room { HasRoom out.old 10 }
+    requires room { HasRoom out.old (run_len Runs) }
     requires few { may_have Runs run.now.len ≡ true }
     ensures { Puts out.old out.new (run_bytes Runs run.now) }
 {
@@ -116,7 +116,7 @@ fn put_short_run(out: &mut Vec<u8>, run: &Run)
 
 // A run of a state, in one piece.
 fn put_long_run(out: &mut Vec<u8>, run: &Run)
-    requires room { HasRoom out.old 12 }
+    requires room { HasRoom out.old (run_len LongRuns) }
     ensures { Puts out.old out.new (run_bytes LongRuns run.now) }
 {
     let site = run.first.site.to_be_bytes();
