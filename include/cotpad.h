@@ -387,9 +387,8 @@ cotpad_status cotpad_text_range(cotpad_site *site, uint32_t place, uint32_t coun
  * lets come in and the place of the next a character stands that stays; where nothing changed there is none. *needed is the number of
  * changes, and `room` counts changes too. Else COTPAD_TOO_SHORT, which writes *needed alone; COTPAD_NONE, where the history has fewer
  * operations; or COTPAD_NO_MEMORY. The call only reads: whatever it answers, it may be made again, also later, for all changes since
- * then. It costs a pass over the counts of sites and the undone names, and, after few operations, by the characters that these brought,
- * took away, undid or redid, and a step for each 512 that were ever inserted; after many, a look at each of these, shown or not, and
- * at its deletes. */
+ * then. After few operations it costs by the characters that these brought, took away, undid or redid, and a step for each 512 that were
+ * ever inserted; after many, a look at each of these, shown or not, and at its deletes. */
 cotpad_status cotpad_changes(cotpad_site *site, uint32_t from, cotpad_change *out, size_t room, size_t *needed);
 
 /* The text that the operations before this index of the history show, in UTF-8: the empty one at 0, and the present one at

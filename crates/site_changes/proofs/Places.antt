@@ -4,6 +4,7 @@ use Rattle.std.specs.Prelude.{All, Contains}
 use Rattle.std.specs.List.Sorted.{IsStrictlyIncreasing}
 use Rattle.std.proofs.lemmas.Bool.{cases_lt}
 use Rattle.std.proofs.lemmas.List.{get_or_default, get_or_past, take_all}
+use Rattle.std.proofs.lemmas.Option.{slice_get_within}
 use Rattle.context_vector.specs.Contexts.{ContextData}
 use Rattle.ttf_form.specs.Cells.{CellData}
 use Rattle.tombstone_text.specs.Chunks.{shown_in}
@@ -138,3 +139,27 @@ module _ (c : ContextData) (ds : List CellData) (ps : List ℕ) (quiet : IsQuiet
         is
         ∙ ap (λ (n : ℕ). told (marks_of c (take n ds))) (get_or_past ps j (length ds) done)
         ∙ ap (λ (l : List CellData). told (marks_of c l)) (take_all (length ds) ds (omega arith))
+
+-- ---- one place
+
+one_rises : (p : ℕ) → IsStrictlyIncreasing (p ∷ [])
+one_rises p i lt = absurd (omega (arith, lt))
+
+module _ (c : ContextData) (ds : List CellData) (p : ℕ) (quiet : IsQuietBut c ds (p ∷ [])) where
+  one_inside : p < length ds → All (λ n. n < length ds) (p ∷ [])
+  one_inside lt zero d less = lt
+  one_inside lt (suc i) d less = absurd (omega (arith, less))
+
+  -- nothing is told of the cells in front of the only place
+  pub one_first : p < length ds → [] ≡ told (marks_of c (take p ds))
+  one_first lt = told_first c ds (p ∷ []) quiet (one_rises p) (one_inside lt)
+
+  -- and once the cell there was told, all were
+  pub one_told : (d : CellData) (old new : List Change) (v : ℕ) → slice_get ds p ≡ Some d → old ≡ [] → v ≡ shown_in (take p ds)
+      → TellsOneMore v (mark_of c d) old new → new ≡ told (marks_of c ds)
+  one_told d old new v at none front more =
+      let lt = slice_get_within ds p d at in
+      let up = one_rises p in
+      let inside = one_inside lt in
+      told_end c ds (p ∷ []) quiet up inside 1 new (omega arith)
+      (told_next c ds (p ∷ []) quiet up inside 0 d old new v (omega arith) at (none ∙ one_first lt) front more)

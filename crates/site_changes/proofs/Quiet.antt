@@ -40,7 +40,7 @@ got_in (x ∷ xs) (suc p) d e = inr (got_in xs p d e)
 
 -- ---- generations
 
-generation-append : (k r : List OpData) (t : NameData) → generation_in (k ++ r) t ≡ max (generation_in k t) (generation_in r t)
+pub generation-append : (k r : List OpData) (t : NameData) → generation_in (k ++ r) t ≡ max (generation_in k t) (generation_in r t)
 generation-append [] r t = omega arith
 generation-append (o ∷ os) r t = rw (generation-append os r t) (omega arith)
 

@@ -1,77 +1,95 @@
 //! The members of the first operations, and which cells these showed.
 
-ghost use Rattle.std.specs.Prelude.{◌≡◌, ◌+◌, ◌<◌, ◌≤◌, length, take, OnOk, IfOk};
+ghost use Rattle.std.specs.Prelude.{◌≡◌, take};
 ghost use Rattle.std.specs.List.{list_any};
+ghost use Rattle.context_vector.specs.Contexts.{entry_of, has};
 ghost use Rattle.context_diff.specs.Histories.{context_of_all};
 ghost use Rattle.site_changes.specs.Code.Marks.{is_in_force_at, was_shown};
 
 use context_diff::Book;
-use context_vector::Vector;
-use cot_site::Site;
-use op_name::{Member, Memory, Name};
+use op_name::{Member, Name};
+use std::marker::Model;
 use tombstone_text::Cell;
-use undo_group::in_force;
 
-/// The members of the first operations of the site's history, so many of them: all members of the site without those that came later,
-/// which are taken out of a copy, the last one first.
-pub(crate) fn members_before(site: &Site, from: u32) -> Result<Vector, Memory>
-    requires { from ≤ length site.now.history }
-    ensures { IfOk result (λ v. v.set ≡ context_of_all (take from site.now.history)) }
-{
-    let mut at = site.vector().try_clone()?;
-    take_back(site.book(), from, &mut at)?;
-    Ok(at)
+/// The members of the first operations of a book, so many of them. Nothing is copied: the book knows where the operation of each member
+/// stands, and a member is one of the first where its operation stands in front of the others.
+#[derive(Drop)]
+pub(crate) struct Earlier<'a> {
+    book: &'a Book,
+    from: u32,
 }
 
-// Takes the members of the operations from the `from`-th on out of those of all.
-fn take_back(book: &Book, from: u32, at: &mut Vector) -> Result<(), Memory>
-    requires from { from ≤ length book.now.ops }
-    requires all { at.old.set ≡ context_of_all book.now.ops }
-    ensures { OnOk result (at.new.set ≡ context_of_all (take from book.now.ops)) }
-{
-    let mut left = book.len();
-    while from < left {
-        left -= 1;
-        take_last(book, left, at)?;
+impl<'a> Model for Earlier<'a> {
+    ghost use Rattle.std.specs.Prelude.{take};
+    ghost use Rattle.context_vector.specs.Contexts.{ContextData};
+    ghost use Rattle.context_diff.specs.Histories.{context_of_all};
+
+    ghost Value = { ContextData };
+
+    ghost view = { λ e. context_of_all (take e.from e.book.now.ops) };
+}
+
+impl<'a> Earlier<'a> {
+    /// Those of the first `from` operations of the book.
+    pub(crate) fn new(book: &'a Book, from: u32) -> Earlier<'a>
+        ensures { result ≡ context_of_all (take from book.now.ops) }
+    {
+        Earlier { book, from }
     }
-    Ok(())
-}
 
-// Takes the member of the last of so many operations and one more out of the members of these.
-fn take_last(book: &Book, last: u32, at: &mut Vector) -> Result<(), Memory>
-    requires there { last < length book.now.ops }
-    requires with { at.old.set ≡ context_of_all (take (last + 1) book.now.ops) }
-    ensures { OnOk result (at.new.set ≡ context_of_all (take last book.now.ops)) }
-{
-    book.known();
-    match book.member(last) {
-        Some(member) => {
-            at.reserve(&member)?;
-            at.drop_last(&member);
-            at.known();
-            Ok(())
+    // Whether the member is one of them.
+    fn has(&self, m: &Member) -> bool
+        ensures { result ≡ has self.now m.now }
+    {
+        self.book.known();
+        match self.book.place_of(m) {
+            Some(place) => place < self.from as usize,
+            None => false,
         }
-        None => unreachable!(),
     }
-}
 
-// Whether the cell was shown at the set: its insert is in force there, and none of its deletes is.
-pub(crate) fn was_shown(cell: &Cell<'_>, at: &Vector) -> bool
-    ensures { result ≡ was_shown at.now.set cell.now }
-{
-    is_in_force_at(at, &cell.id().name) && !any_in_force_at(at, cell.deleters())
-}
+    // The greatest generation at which they have an undo group of the name, 0 where they have none. They have all groups up to that one
+    // and none above it, so it is sought between 0 and the greatest of all operations, by halves. Where nothing was undone, nothing is
+    // sought.
+    fn generation(&self, name: &Name) -> u16
+        ensures { result ≡ entry_of self.now name.now }
+    {
+        self.book.known();
+        let have = self.book.have();
+        if have.entries() == 0 {
+            return 0;
+        }
+        let mut low = 0;
+        let mut high = have.entry(name);
+        while low < high {
+            let middle = high - (high - low) / 2;
+            if self.has(&Member::Group(*name, middle)) {
+                low = middle;
+            } else {
+                high = middle - 1;
+            }
+        }
+        low
+    }
 
-// Whether one of the deletes is in force at the set.
-fn any_in_force_at(at: &Vector, deleters: &[(Name, u16)]) -> bool
-    ensures { result ≡ list_any (λ e. is_in_force_at at.now.set e.0) deleters.now }
-{
-    deleters.iter().any(|e| is_in_force_at(at, &e.0))
-}
+    // Whether the original is one of them, and in force by the undos that they have.
+    fn has_in_force(&self, name: &Name) -> bool
+        ensures { result ≡ is_in_force_at self.now name.now }
+    {
+        self.has(&Member::Original(*name)) && self.generation(name) % 2 == 0
+    }
 
-// Whether the original is in the set, and in force by the undos that the set has.
-fn is_in_force_at(at: &Vector, name: &Name) -> bool
-    ensures { result ≡ is_in_force_at at.now.set name.now }
-{
-    at.contains(&Member::Original(*name)) && in_force(at, name)
+    // Whether one of the deletes is one of them, and in force.
+    fn has_any_in_force(&self, deleters: &[(Name, u16)]) -> bool
+        ensures { result ≡ list_any (λ e. is_in_force_at self.now e.0) deleters.now }
+    {
+        deleters.iter().any(|e| self.has_in_force(&e.0))
+    }
+
+    /// Whether they showed the cell: its insert is in force by them, and none of its deletes is.
+    pub(crate) fn showed(&self, cell: &Cell<'_>) -> bool
+        ensures { result ≡ was_shown self.now cell.now }
+    {
+        self.has_in_force(&cell.id().name) && !self.has_any_in_force(cell.deleters())
+    }
 }

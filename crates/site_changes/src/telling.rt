@@ -1,22 +1,25 @@
 //! Changes that are told of cells, from left to right.
 
-ghost use Rattle.std.specs.Prelude.{◌≡◌, ◌+◌, ◌<◌, [], Some, All, drop, length, take, slice_get, OnOk, IfOk};
+ghost use Rattle.std.specs.Prelude.{◌≡◌, ◌+◌, ◌<◌, [], ◌∷◌, Some, All, drop, length, take, slice_get, OnOk, IfOk};
 ghost use Rattle.std.specs.List.Sorted.{IsStrictlyIncreasing};
 ghost use Rattle.tombstone_text.specs.Chunks.{flat, shown_in};
 ghost use Rattle.change_list.specs.Told.{told, HasRoom};
 ghost use Rattle.site_changes.specs.Code.Marks.{mark_of, marks_of, IsQuietBut, TellsOneMore};
 
-use crate::earlier::was_shown;
+use crate::earlier::Earlier;
 use change_list::{Change, tell};
-use context_vector::Vector;
 use op_name::Memory;
 use std::alloc::Global;
 use tombstone_text::{Cell, Cells, ChunkCells};
-use visible_view::visible_before;
+use touched_cells::{Touched, look};
 
 /// The changes of all cells since the set.
-pub(crate) fn all_changes(alloc: Global, cells: &Cells, at: &Vector) -> Result<Vec<Change>, Memory>
-    ensures { IfOk result (λ cs. cs.items ≡ told (marks_of at.now.set cells.now.cells)) }
+pub(crate) fn all_changes(
+    alloc: Global,
+    cells: &Cells,
+    at: &Earlier<'_>,
+) -> Result<Vec<Change>, Memory>
+    ensures { IfOk result (λ cs. cs.items ≡ told (marks_of at.now cells.now.cells)) }
 {
     cells.known();
     let mut changes = Vec::new(alloc);
@@ -33,20 +36,38 @@ pub(crate) fn all_changes(alloc: Global, cells: &Cells, at: &Vector) -> Result<V
 pub(crate) fn changes_at(
     alloc: Global,
     cells: &Cells,
-    at: &Vector,
+    at: &Earlier<'_>,
     places: &[u32],
 ) -> Result<Vec<Change>, Memory>
     requires rising { IsStrictlyIncreasing places.now }
     requires within { All (λ p. p < length cells.now.cells) places.now }
-    requires quiet { IsQuietBut at.now.set cells.now.cells places.now }
-    ensures { IfOk result (λ cs. cs.items ≡ told (marks_of at.now.set cells.now.cells)) }
+    requires quiet { IsQuietBut at.now cells.now.cells places.now }
+    ensures { IfOk result (λ cs. cs.items ≡ told (marks_of at.now cells.now.cells)) }
 {
     cells.known();
     let mut changes = Vec::new(alloc);
     for place in places {
-        let shown = visible_before(cells, *place);
-        tell_cell(&cell_at(cells, *place), at, shown, &mut changes)?;
+        let (cell, shown) = look(cells, *place);
+        tell_cell(&cell, at, shown, &mut changes)?;
     }
+    Ok(changes)
+}
+
+/// The changes of all cells since the set, where each cell but this one was shown exactly if it is shown.
+pub(crate) fn change_of(
+    alloc: Global,
+    cells: &Cells,
+    at: &Earlier<'_>,
+    touched: &Touched<'_>,
+) -> Result<Vec<Change>, Memory>
+    requires quiet { IsQuietBut at.now cells.now.cells (touched.now.place ∷ []) }
+    requires there { slice_get cells.now.cells touched.now.place ≡ Some touched.now.cell }
+    requires front { touched.now.shown ≡ shown_in (take touched.now.place cells.now.cells) }
+    ensures { IfOk result (λ cs. cs.items ≡ told (marks_of at.now cells.now.cells)) }
+{
+    cells.known();
+    let mut changes = Vec::new(alloc);
+    tell_cell(&touched.cell, at, touched.shown, &mut changes)?;
     Ok(changes)
 }
 
@@ -54,14 +75,14 @@ pub(crate) fn changes_at(
 fn tell_chunk(
     cells: &Cells,
     chunk: u32,
-    at: &Vector,
+    at: &Earlier<'_>,
     front: u32,
     changes: &mut Vec<Change>,
 ) -> Result<(), Memory>
     requires there { chunk < length cells.now.chunks }
     requires front { front ≡ shown_in (flat (take chunk cells.now.chunks)) }
-    requires told { changes.old.items ≡ told (marks_of at.now.set (flat (take chunk cells.now.chunks))) }
-    ensures { OnOk result (changes.new.items ≡ told (marks_of at.now.set (flat (take (chunk + 1) cells.now.chunks)))) }
+    requires told { changes.old.items ≡ told (marks_of at.now (flat (take chunk cells.now.chunks))) }
+    ensures { OnOk result (changes.new.items ≡ told (marks_of at.now (flat (take (chunk + 1) cells.now.chunks)))) }
 {
     cells.known();
     let flags = cells.chunk_flags(chunk);
@@ -86,29 +107,18 @@ fn next_cell<'a>(left: &mut ChunkCells<'a>) -> Cell<'a>
     }
 }
 
-// The cell at a place, which is there.
-fn cell_at(cells: &Cells, place: u32) -> Cell<'_>
-    requires { place < length cells.now.cells }
-    ensures { slice_get cells.now.cells place ≡ Some result }
-{
-    match cells.cell(place) {
-        Some(cell) => cell,
-        None => unreachable!(),
-    }
-}
-
 // Tells a cell, in front of which so many are shown: only where it was shown and isn't, or is and wasn't.
 fn tell_cell(
     cell: &Cell<'_>,
-    at: &Vector,
+    at: &Earlier<'_>,
     place: u32,
     changes: &mut Vec<Change>,
 ) -> Result<(), Memory>
     requires { HasRoom place changes.old.items }
-    ensures { OnOk result (TellsOneMore place (mark_of at.now.set cell.now) changes.old.items changes.new.items) }
+    ensures { OnOk result (TellsOneMore place (mark_of at.now cell.now) changes.old.items changes.new.items) }
 {
     let shown = cell.shown();
-    if was_shown(cell, at) == shown {
+    if at.showed(cell) == shown {
         return Ok(());
     }
     tell(changes, place, shown)

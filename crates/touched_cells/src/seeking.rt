@@ -7,6 +7,7 @@ ghost use Rattle.ttf_form.specs.Cells.{cells_of};
 ghost use Rattle.touched_cells.specs.Touched.{IsDeletedBy};
 ghost use Rattle.touched_cells.specs.Code.Seeking.{AreWith, AtMostOne, IsDeletedAt, IsOneOf, StandsAt, StandOnce};
 
+use crate::looking::cell_at;
 use op_name::{Memory, Name};
 use tombstone_text::{Cell, Cells};
 
@@ -54,7 +55,7 @@ fn find_cell(cells: &Cells, name: &Name, offset: u16, from: u32, to: u32) -> Opt
 fn stands_at(cells: &Cells, name: &Name, offset: u16, place: u32) -> bool
     ensures { IsTrue result ↔ StandsAt (cells_of cells.now.cells) (name.now, offset) place }
 {
-    match cells.cell(place) {
+    match cell_at(cells, place) {
         Some(cell) => cell.id().name == *name && cell.id().offset == offset,
         None => false,
     }
@@ -81,14 +82,14 @@ pub(crate) fn add_deleted(
 fn is_deleted_at(cells: &Cells, name: &Name, place: u32) -> bool
     ensures { IsTrue result ↔ IsDeletedAt cells.now.cells name.now place }
 {
-    match cells.cell(place) {
+    match cell_at(cells, place) {
         Some(cell) => is_deleted_by(&cell, name),
         None => false,
     }
 }
 
-// Whether the delete hit the cell.
-fn is_deleted_by(cell: &Cell<'_>, name: &Name) -> bool
+/// Whether the delete hit the cell.
+pub(crate) fn is_deleted_by(cell: &Cell<'_>, name: &Name) -> bool
     ensures { IsTrue result ↔ IsDeletedBy cell.now name.now }
 {
     is_among(cell.deleters(), name)

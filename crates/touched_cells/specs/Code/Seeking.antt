@@ -1,7 +1,7 @@
 -- Where cells are sought, and which places a list has once they are found.
-use Rattle.std.specs.Prelude.{◌≡◌, ◌⊎◌, ◌↔◌, ℕ, ◌<◌, ◌≤◌, List, Contains, Some, slice_get}
+use Rattle.std.specs.Prelude.{◌≡◌, ◌⊎◌, ◌↔◌, ℕ, ◌<◌, ◌≤◌, List, Contains, Some, length, slice_get}
 use Rattle.op_name.specs.NameData.{NameData}
-use Rattle.context_diff.specs.Operations.{OpData}
+use Rattle.context_diff.specs.Operations.{OpData, inserting, deleting, undoing}
 use Rattle.context_diff.specs.Replays.{Cell}
 use Rattle.ttf_form.specs.Cells.{CellData}
 use Rattle.touched_cells.specs.Touched.{IsDeletedBy, IsBearer, name_touched}
@@ -31,6 +31,12 @@ pub record IsDeletedAt (cs : List CellData) (n : NameData) (p : ℕ) : Type 0 wh
   pub cell : CellData
   pub there : slice_get cs p ≡ Some cell
   pub deleted : IsDeletedBy cell n
+
+-- the cell is the only one that the operation touched: an insert of one character put it, or a delete hit it
+abbrev pub IsOnlyOf : OpData → CellData → Type 0
+IsOnlyOf (inserting n place text k) d = (length text ≡ 1) × (d.name ≡ n)
+IsOnlyOf (deleting n place k) d = IsDeletedBy d n
+IsOnlyOf (undoing a t g k) d = ⊥
 
 -- the cell at the place bears the name that some operation of the history touches, from one on and before another one
 pub record IsTouchedBetween (h : List OpData) (from to : ℕ) (cs : List CellData) (p : ℕ) : Type 0 where

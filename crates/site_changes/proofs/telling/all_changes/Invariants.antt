@@ -7,5 +7,5 @@ use Rattle.site_changes.proofs.telling.all_changes.Given as goal
 
 abbrev pub invariant-loop-i : goal.invariant-loop-i
 invariant-loop-i l =
-    (l.changes.items ≡ told (marks_of l.at.set (flat (take l.i l.cells.chunks))))
+    (l.changes.items ≡ told (marks_of l.at (flat (take l.i l.cells.chunks))))
     × (l.place ≡ shown_in (flat (take l.i l.cells.chunks)))

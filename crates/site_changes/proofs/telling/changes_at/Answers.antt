@@ -11,7 +11,7 @@ use Rattle.site_changes.proofs.telling.changes_at.Goals as goal
 pub loop-place-init : goal.loop-place-init
 loop-place-init c =
     c.new-changes.ensures.items
-    ∙ told_first c.args.at.now.set c.args.cells.now.cells c.args.places.now c.requires.quiet c.requires.rising c.requires.within
+    ∙ told_first c.args.at.now c.args.cells.now.cells c.args.places.now c.requires.quiet c.requires.rising c.requires.within
 
 pub tell_cell-requires : goal.tell_cell-requires
 tell_cell-requires c =
@@ -21,22 +21,22 @@ tell_cell-requires c =
     let p = get_or ps j 0 in
     let here : next_place ps j (length ds) ≡ p = get_or_default ps j (length ds) 0 c.loop-place-test.true in
     let lt : p < length ds = c.requires.within j 0 c.loop-place-test.true in
-    let was : c.loop-place.changes.items ≡ told (marks_of c.args.at.now.set (take p ds)) =
-    c.loop-place.invariant ∙ ap (λ (n : ℕ). told (marks_of c.args.at.now.set (take n ds))) here in
-    subst (λ (n : ℕ). HasRoom n c.loop-place.changes.items) (sym c.visible_before-shown.ensures)
+    let was : c.loop-place.changes.items ≡ told (marks_of c.args.at.now (take p ds)) =
+    c.loop-place.invariant ∙ ap (λ (n : ℕ). told (marks_of c.args.at.now (take n ds))) here in
+    subst (λ (n : ℕ). HasRoom n c.loop-place.changes.items) (sym c.look-cell.ensures.shown)
     (subst (λ (ts : List Change). HasRoom (shown_in (take p ds)) ts) (sym was)
-    (marks_room c.args.at.now.set (take p ds) (omega (arith, length-take-le p ds (omega (arith, lt)), lt, c.known.ensures.most))))
+    (marks_room c.args.at.now (take p ds) (omega (arith, length-take-le p ds (omega (arith, lt)), lt, c.known.ensures.most))))
 
 pub loop-place-preserved : goal.loop-place-preserved
 loop-place-preserved c =
-    let v = c.args.at.now.set in
+    let v = c.args.at.now in
     let ds = c.args.cells.now.cells in
     let ps = c.args.places.now in
     let j = c.loop-place.place-index in
     let here : next_place ps j (length ds) ≡ get_or ps j 0 = get_or_default ps j (length ds) 0 c.loop-place-test.true in
-    told_next v ds ps c.requires.quiet c.requires.rising c.requires.within j c.cell_at.result c.loop-place.changes.items
-    c.tell_cell.new.changes.items c.visible_before-shown.result c.loop-place-test.true
-    (ap (λ (n : ℕ). slice_get ds n) here ∙ c.cell_at.ensures)
+    told_next v ds ps c.requires.quiet c.requires.rising c.requires.within j c.look-cell.result.0 c.loop-place.changes.items
+    c.tell_cell.new.changes.items c.look-cell.result.1 c.loop-place-test.true
+    (ap (λ (n : ℕ). slice_get ds n) here ∙ c.look-cell.ensures.cell)
     c.loop-place.invariant
-    (c.visible_before-shown.ensures ∙ ap (λ (n : ℕ). shown_in (take n ds)) (sym here))
+    (c.look-cell.ensures.shown ∙ ap (λ (n : ℕ). shown_in (take n ds)) (sym here))
     c.in_ok-tell_cell.ensures

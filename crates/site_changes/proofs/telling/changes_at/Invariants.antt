@@ -7,4 +7,4 @@ use Rattle.site_changes.proofs.telling.changes_at.Given as goal
 
 abbrev pub invariant-loop-place : goal.invariant-loop-place
 invariant-loop-place l =
-    l.changes.items ≡ told (marks_of l.at.set (take (next_place l.places l.place-index (length l.cells.cells)) l.cells.cells))
+    l.changes.items ≡ told (marks_of l.at (take (next_place l.places l.place-index (length l.cells.cells)) l.cells.cells))

@@ -19,19 +19,19 @@ other true false e = refl
 other false true e = refl
 other false false e = cc
 
-pub returns-then-was_shown-shown : goal.returns-then-was_shown-shown
-returns-then-was_shown-shown c ms is front =
-    let m = mark_of c.args.at.now.set c.args.cell.now in
+pub returns-then-showed-shown : goal.returns-then-showed-shown
+returns-then-showed-shown c ms is front =
+    let m = mark_of c.args.at.now c.args.cell.now in
     let alike : m.was ≡ m.is =
-    sym c.was_shown.ensures ∙ same c.was_shown.result c.shown-shown.result c.if-was_shown-shown.true ∙ c.shown-shown.ensures in
+    sym c.showed.ensures ∙ same c.showed.result c.shown-shown.result c.if-showed-shown.true ∙ c.shown-shown.ensures in
     is ∙ sym (told_same ms m alike)
 
 pub returns : goal.returns
 returns c =
-    let m = mark_of c.args.at.now.set c.args.cell.now in
+    let m = mark_of c.args.at.now c.args.cell.now in
     let shown : c.shown-shown.result ≡ m.is = c.shown-shown.ensures in
     let turned : m.was ≡ not m.is =
-    sym c.was_shown.ensures ∙ other c.was_shown.result c.shown-shown.result c.if-was_shown-shown.false ∙ ap not shown in
+    sym c.showed.ensures ∙ other c.showed.result c.shown-shown.result c.if-showed-shown.false ∙ ap not shown in
     let now = told_at c.args.place c.shown-shown.result c.args.changes.now.items in
     on_ok_weaker c.tell.result (λ (e : c.tell.new.changes.items ≡ now) ms is front.
     e

@@ -31,7 +31,7 @@ tell_cell-requires c =
     c.known.ensures.chunks in
     subst (λ (n : ℕ). HasRoom n c.loop-i.changes.items) (sym c.loop-i.invariant.1)
     (subst (λ (ts : List Change). HasRoom (shown_in ds) ts) (sym c.loop-i.invariant.0)
-    (marks_room c.args.at.now.set ds (omega (arith, short, c.known.ensures.most))))
+    (marks_room c.args.at.now ds (omega (arith, short, c.known.ensures.most))))
 
 pub overflow_add-place : goal.overflow_add-place
 overflow_add-place c =
@@ -55,7 +55,7 @@ overflow_add-place c =
 
 pub loop-i-preserved : goal.loop-i-preserved
 loop-i-preserved c =
-    let v = c.args.at.now.set in
+    let v = c.args.at.now in
     let cs = c.args.cells.now.chunks in
     let there = first_at (get_or cs c.args.chunk []) c.loop-i.left c.loop-i.i c.next_cell.result c.loop-i.invariant.2 c.next_cell.ensures.first in
     let x = c.next_cell.result in

@@ -7,6 +7,6 @@ use Rattle.site_changes.proofs.telling.tell_chunk.Given as goal
 
 abbrev pub invariant-loop-i : goal.invariant-loop-i
 invariant-loop-i l =
-    (l.changes.items ≡ told (marks_of l.at.set (flat (take l.chunk l.cells.chunks) ++ take l.i (get_or l.cells.chunks l.chunk []))))
+    (l.changes.items ≡ told (marks_of l.at (flat (take l.chunk l.cells.chunks) ++ take l.i (get_or l.cells.chunks l.chunk []))))
     × (l.place ≡ shown_in (flat (take l.chunk l.cells.chunks) ++ take l.i (get_or l.cells.chunks l.chunk [])))
     × (l.left ≡ drop l.i (get_or l.cells.chunks l.chunk []))
