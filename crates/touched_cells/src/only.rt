@@ -38,7 +38,8 @@ pub fn only_touched(site: &Site, from: u32) -> Option<Touched<'_>>
     site.known();
     let book = site.book();
     book.known();
-    if book.len() - from != 1 {
+    let later = book.len() - from;
+    if later != 1 {
         return None;
     }
     match book.op(from) {

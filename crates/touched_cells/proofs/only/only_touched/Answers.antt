@@ -16,7 +16,7 @@ returns-in-Some-executed-clause-touched c =
     let there : slice_get h c.args.from ≡ Some o =
     sym (c.in-Some.ensures ∙ ap (λ (l : List OpData). slice_get l c.args.from) c.book-book.ensures) in
     let long = c.len.ensures ∙ ap (λ (l : List OpData). length l) c.book-book.ensures in
-    let last : length h ≡ c.args.from + 1 = omega (arith, long, c.if-len-from-ne1.false, c.requires) in
+    let last : length h ≡ c.args.from + 1 = omega (arith, long, c.if-later-ne1.false, c.requires) in
     if_only c.touched_at.result _ _ (λ t with.
     only_place h c.args.from cs o t.place last there
     (subst (λ (l : List CellData). AreWith (IsBearer l (name_touched o)) [] (t.place ∷ [])) c.cells.ensures.forms with))
