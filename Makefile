@@ -105,9 +105,10 @@ HOST_FLAGS := -std=c99 -Wall -Wextra -Wpedantic -O2 -Iinclude
 # The folder of the library that hosts are linked with.
 LIB ?= $(patsubst %/libcotpad.a,%,$(firstword $(wildcard lib/libcotpad.a quick/libcotpad.a)))
 
-# Three people, a cursor and a text of the host's that is kept by changes, in C and in Python, and a host that stores before it sends,
-# compared with what they have to write; sessions in which each allocation is refused in turn; and operations that the user's own edits free, which are released and told, so
-# that what is saved is loaded. Where valgrind is there, it has to find no bad access and no block left.
+# Three people, a cursor, a text of the host's that is kept by changes, and positions as editors count them, in C and in Python, and a
+# host that stores before it sends, compared with what they have to write; sessions in which each allocation is refused in turn;
+# operations that the user's own edits free, which are released and told, so that what is saved is loaded; and positions in drawn texts,
+# compared with sums. Where valgrind is there, it has to find no bad access and no block left.
 check-hosts:
 	$(needs-library)
 	@echo "with $(LIB)/libcotpad.a"
@@ -121,6 +122,9 @@ check-hosts:
 	$(CC) $(HOST_FLAGS) -o bin/mirror examples/embed/mirror.c $(LIB)/libcotpad.a
 	bin/mirror | diff - examples/embed/mirror.c.out
 	$(PACKAGE) python3 examples/embed/mirror.py | diff - examples/embed/mirror.py.out
+	$(CC) $(HOST_FLAGS) -o bin/positions examples/embed/positions.c $(LIB)/libcotpad.a
+	bin/positions | diff - examples/embed/positions.c.out
+	$(PACKAGE) python3 examples/embed/positions.py | diff - examples/embed/positions.py.out
 	$(CC) $(HOST_FLAGS) -o bin/saved examples/embed/saved.c $(LIB)/libcotpad.a
 	bin/saved | diff - examples/embed/saved.c.out
 # In C++, and with two threads.
@@ -134,6 +138,8 @@ check-hosts:
 	bin/settles
 	$(CC) $(HOST_FLAGS) -o bin/pasts tools/hosts/pasts.c $(LIB)/libcotpad.a
 	bin/pasts
+	$(CC) $(HOST_FLAGS) -Wl,--wrap=malloc,--wrap=realloc -o bin/drawn_positions tools/hosts/positions.c $(LIB)/libcotpad.a
+	bin/drawn_positions
 # In C99, which sees no layout, and in C11 and C++11, which do.
 	@set -e; for language in 'c -std=c99' 'c -std=c11' 'c++ -std=c++11'; do \
 		$(CC) -x $$language -Wall -Wextra -Wpedantic -Werror -O2 -Iinclude -o bin/numbers tools/hosts/numbers.c -x none $(LIB)/libcotpad.a; \

@@ -55,7 +55,7 @@ typedef uint32_t cotpad_status;
 #define COTPAD_GENERATION_FULL 8u /* it was undone and redone 65,535 times, as often as can be */
 #define COTPAD_NUMBER_FULL 9u     /* the site has made 1,000,000 inserts and deletes */
 #define COTPAD_CONTEXT_FULL 10u   /* more than 16,384 inserts and deletes were undone */
-#define COTPAD_NO_NAME 11u        /* a site above 1,023, or a number that is 0 or above 1,000,000 */
+#define COTPAD_NO_NAME 11u        /* a site above 1,023, or a number that is 0 or above 1,000,000; or no kind of an anchor, or no measure */
 #define COTPAD_NONE 12u           /* there is none: no operation at this index, none to release, no character at this place or of this anchor,
                                    * no undo of this name; or, of calls that take the operations before or from an index, or a range of them, the
                                    * history has fewer */
@@ -107,6 +107,14 @@ typedef struct {
 #define COTPAD_ANCHOR_END 2u
 #define COTPAD_ANCHOR_AFTER 3u
 #define COTPAD_ANCHOR_BEFORE 4u
+
+/* Told in place of the place of an anchor, by the call that takes many. It is a place only where so many characters are shown. */
+#define COTPAD_NO_PLACE 4294967295u
+
+/* In what offsets are counted: in bytes of UTF-8, of which a character has 1 to 4, or in units of UTF-16, of which one above U+FFFF has
+ * two, and any other one. */
+#define COTPAD_BYTES 1u
+#define COTPAD_UNITS 2u
 
 /* A place that stays beside a character while others edit. The character is the one at `offset`, from 0, in the text of the insert of the
  * name `site` and `number`, which all sites call so: a host may send an anchor to another site, or keep it beside a log. Of
@@ -295,12 +303,39 @@ cotpad_status cotpad_anchor_left(cotpad_site *site, uint32_t place, cotpad_ancho
 cotpad_status cotpad_anchor_right(cotpad_site *site, uint32_t place, cotpad_anchor *anchor);
 
 /* How many shown characters stand before the anchor. While its character is hidden, it has a place as well: between the characters that
- * are shown before and behind it; and the character's own again once that is shown again. It costs a short step for each operation that
- * the site integrated since the insert of the character, and what cotpad_name_at does. Of
- * COTPAD_ANCHOR_START and COTPAD_ANCHOR_END nothing but the kind is looked at. Else COTPAD_NO_NAME, where the kind or the name is out of
- * its range, or the offset above 255; or COTPAD_NONE, where the site has no such character, as before its insert is integrated: *place is
- * as it was. */
+ * are shown before and behind it; and the character's own again once that is shown again. It costs a search for each 256 operations that
+ * the site integrated since the insert of the character, up to 512 short steps, and what cotpad_name_at does. For that the call makes
+ * notes, of 2 KB for 256 operations, of those that came since the last such call, as far as there is memory for it; where there is none,
+ * a place costs a short step for each operation since that insert. Of COTPAD_ANCHOR_START and COTPAD_ANCHOR_END nothing but the kind is
+ * looked at. Else COTPAD_NO_NAME, where the kind or the name is out of its range, or the offset above 255; or COTPAD_NONE, where the site
+ * has no such character, as before its insert is integrated: *place is as it was. */
 cotpad_status cotpad_anchor_place(cotpad_site *site, const cotpad_anchor *anchor, uint32_t *place);
+
+/* The places of `count` anchors, in their order, as of all cursors that a window shows: of each what cotpad_anchor_place tells, or
+ * COTPAD_NO_PLACE where that answers COTPAD_NONE or COTPAD_NO_NAME. It costs what that does for each; or, where that is less, as of very
+ * many, a look at each character that was ever inserted, shown or not. `room` counts places: the ones behind the first `count` are as they
+ * were. Else COTPAD_TOO_SHORT, where `room` is below `count`, or COTPAD_NO_MEMORY, and nothing is written. */
+cotpad_status cotpad_anchor_places(cotpad_site *site, const cotpad_anchor *anchors, size_t count, uint32_t *places, size_t room);
+
+/* The offset of the place after so many shown characters: how many bytes of UTF-8 (COTPAD_BYTES), or units of UTF-16 (COTPAD_UNITS), these
+ * have, as the strings of many languages, and the editors in them, count. It costs a short step for each 64 pieces of the text, of up to
+ * 512 characters that were ever inserted, and a look at one such piece. Else COTPAD_PLACE_OUT, where fewer characters are shown, or
+ * COTPAD_NO_NAME, where the measure is neither of the two: *offset is as it was. */
+cotpad_status cotpad_offset(cotpad_site *site, uint32_t measure, uint32_t place, uint64_t *offset);
+
+/* The place that has this offset: no other one has it. It costs what cotpad_offset does. Else COTPAD_NONE, where no place has it, since it
+ * lies within a character, or past the end of the text; or COTPAD_NO_NAME, where there is no such measure: *place is as it was. */
+cotpad_status cotpad_place_at(cotpad_site *site, uint32_t measure, uint64_t offset, uint32_t *place);
+
+/* The line and the column of the place after so many shown characters, both from 0: how many line feeds (U+000A) are among these, and how
+ * many characters stand behind the last one of them. A column counts characters, as a place does, whatever their width; a carriage return
+ * is one as any other. For bytes or units from the front of a line subtract two offsets. It costs twice what cotpad_offset does. Else
+ * COTPAD_PLACE_OUT, where fewer characters are shown: *line and *column are as they were. */
+cotpad_status cotpad_line(cotpad_site *site, uint32_t place, uint32_t *line, uint32_t *column);
+
+/* The place that has this line and column. It costs twice what cotpad_offset does. Else COTPAD_NONE, where no place has them, since the
+ * text has fewer lines, or this line fewer characters: *place is as it was. */
+cotpad_status cotpad_line_place(cotpad_site *site, uint32_t line, uint32_t column, uint32_t *place);
 
 /* How often the insert or delete of this name was undone and redone: its generation, which is odd while it is undone, and even, from
  * 0 on, while it is in force. It costs a search among the undone names, whatever the history. Else COTPAD_NO_NAME, or COTPAD_UNKNOWN

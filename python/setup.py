@@ -14,7 +14,7 @@ try:
 except ImportError:  # before setuptools 70.1
     from wheel.bdist_wheel import bdist_wheel
 
-VERSION = "4.0.0"
+VERSION = "4.1.0"
 
 
 class WithLibrary(build_py):

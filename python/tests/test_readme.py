@@ -79,6 +79,20 @@ def test_the_text_of_an_editor(sites):
     assert names["view"] == "étea"
 
 
+def test_the_positions_of_an_editor(sites):
+    """Five units are a, é, the line feed and the clef's two: behind the clef."""
+    ann = sites[0]
+    ann.insert(0, "aé\n𝄞€")
+    names = {"mine": ann}
+    exec(example("docs/EMBEDDING.md", "mine.place_at(5"), names)
+    assert (ann.text, names["place"]) == ("aé\n𝄞here€", 4)
+    assert (names["line"], names["column"], names["start"]) == (1, 1, 4)
+
+
+def test_the_positions_in_c_are_those_of_the_example():
+    assert example("docs/EMBEDDING.md", "places[PEOPLE]", "c").splitlines()[1] in (TOP / "examples/embed/positions.c").read_text()
+
+
 def test_the_mirror_in_c_is_that_of_the_example():
     assert example("docs/EMBEDDING.md", "mirror *m", "c") in (TOP / "examples/embed/mirror.c").read_text()
 

@@ -141,6 +141,12 @@ PROMISES = (
         functions(EXPORTS, "cotpad_changes", "cotpad_text_range"),
     ),
     Promise(
+        "From C: positions",
+        "A place of the shown text is told by bytes, by units, or by a line and a column, and found by them; and each of many anchors has its "
+        "place.",
+        functions(EXPORTS, "cotpad_offset", "cotpad_place_at", "cotpad_line", "cotpad_line_place", "cotpad_anchor_place", "cotpad_anchor_places"),
+    ),
+    Promise(
         "From C: deliveries",
         "A delivery tells its verdict, and what was released is told one by one.",
         functions(EXPORTS, "cotpad_receive", "cotpad_released", "cotpad_released_at", "cotpad_settle", "cotpad_release"),

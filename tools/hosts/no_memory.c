@@ -389,6 +389,23 @@ static void sent(cotpad_site *from, cotpad_site *to) {
     if (allocations != before) stop("frames of nothing take memory");
 }
 
+/* Each anchor is told its place, and one that has none that it has none; a refused call tells nothing. */
+static void placed(cotpad_site *site) {
+    cotpad_anchor given[7] = {{0, 0, 0, 0}};
+    uint32_t places[8] = {77, 77, 77, 77, 77, 77, 77, 77}, shown = cotpad_characters(site);
+    for (uint32_t i = 0; i <= shown; i++)
+        if (cotpad_anchor_left(site, i, &given[i]) != COTPAD_OK) stop("anchor_left");
+    cotpad_status answer = cotpad_anchor_places(site, given, shown + 2, places, 8);
+    if (answer == COTPAD_NO_MEMORY) {
+        again++;
+        if (places[0] != 77) stop("a refused call told a place");
+        answer = cotpad_anchor_places(site, given, shown + 2, places, 8);
+    }
+    for (uint32_t i = 0; i <= shown; i++)
+        if (places[i] != i) stop("another place of an anchor");
+    if (answer != COTPAD_OK || places[shown + 1] != COTPAD_NO_PLACE || places[shown + 2] != 77) stop("anchor_places");
+}
+
 /* A host's own text: inserts 0.1 of "abcd" and 0.2 of "xy", a delete 0.3, and what is undone and redone of these. */
 static void views(void) {
     static const cotpad_change typed[] = {{0, 0, 5}}, cut[] = {{1, 1, 2}}, back[] = {{0, 1, 0}, {2, 2, 0}}, none[1];
@@ -406,6 +423,7 @@ static void views(void) {
     changed(here, 3, none, 0);
     shows_within(here, "xyc");
     named(here);
+    placed(here);
     turn(here, 0, 0, 1, 1);
     shows(here, "xy");
     changed(here, 3, back, 2);

@@ -1,5 +1,5 @@
 -- An anchor that has a place at a site is read back as the anchor that was told.
-use Rattle.std.proofs.Common.{◌≡◌, ℕ, ◌<◌, ◌≤◌, true, Bool, ◌||◌, if◌then◌else◌, nat_lt, List, [], ◌∷◌, Some, None, option_map, length, inl, inr, refl, sym, ap, ◌∙◌, subst, arith, true≢false}
+use Rattle.std.proofs.Common.{◌≡◌, ℕ, ◌<◌, ◌≤◌, true, false, Bool, ◌||◌, if◌then◌else◌, nat_lt, List, [], ◌∷◌, Option, Some, None, option_map, length, map, inl, inr, refl, sym, ap, ap₂, ◌∙◌, subst, arith, true≢false}
 use Rattle.std.specs.Prelude.{Contains}
 use Rattle.std.proofs.lemmas.Bool.{cases_Bool, and_parts, ltb-true}
 use Rattle.std.proofs.lemmas.Bool.Decides.{nat_tests}
@@ -17,7 +17,9 @@ use Rattle.site_anchors.specs.declared.anchors.Anchor.{Anchor}
 use Rattle.site_anchors.specs.declared.anchors.Anchor.TheVariants.{Start, End, After, Before}
 use Rattle.site_anchors.specs.Anchors.{cell_at, puts, has_cell, shown_before, shown_up_to, where_had, place_told}
 use Rattle.cotpad_c.specs.declared.kinds.TheConstants.{AFTER, BEFORE}
-use Rattle.cotpad_c.specs.Anchors.{is_cell, cell_told, cell_given, anchor_told, anchor_given}
+use Rattle.cotpad_c.specs.declared.anchors.CotpadAnchor.{CotpadAnchor}
+use Rattle.cotpad_c.specs.Anchors.{is_cell, cell_told, cell_given, anchor_told, anchor_given, place_given, place_number, place_of_any, places_given}
+use Rattle.cotpad_c.specs.Code.{nowhere, anchor_or, anchor_or_nowhere}
 
 -- the numbers of a cell are in their ranges
 record Fits (c : Cell) : Type 0 where
@@ -70,3 +72,25 @@ read_back h (After id) v valid told =
     ap (option_map (λ i. After i)) (cell_back h AFTER id valid (told_had h (cell_at id) (shown_up_to h (cell_at id)) v told))
 read_back h (Before id) v valid told =
     ap (option_map (λ i. Before i)) (cell_back h BEFORE id valid (told_had h (cell_at id) (shown_before h (cell_at id)) v told))
+
+-- ---- many anchors
+
+-- no history has the cell that stands for what is no anchor
+nowhere_lacks : (h : List OpData) → IsValid h → has_cell h (cell_at nowhere) ≡ false
+nowhere_lacks h valid = elim (cases_Bool (has_cell h (cell_at nowhere))) [
+  | inl has ↦ let past = (had_fits h (cell_at nowhere) (complete h valid).formed has).offset in absurd (omega (arith, past))
+  | inr lacks ↦ lacks
+]
+
+-- so the anchor that stands for it has no place
+no_place : (h : List OpData) (o : Option Anchor) → IsValid h → place_told h (anchor_or o) ≡ place_of_any h o
+no_place h None valid =
+    ap (λ (b : Bool). if b then Some (shown_up_to h (cell_at nowhere)) else None) (nowhere_lacks h valid)
+no_place h (Some a) valid = refl
+
+-- what is read of the places of all of them
+pub many_told : (h : List OpData) (given : List CotpadAnchor) → IsValid h
+    → map place_number (map (place_told h) (map anchor_or_nowhere given)) ≡ places_given h given
+many_told h [] valid = refl
+many_told h (a ∷ others) valid =
+    ap₂ (λ (o : Option ℕ) (vs : List ℕ). place_number o ∷ vs) (no_place h (anchor_given a) valid) (many_told h others valid)

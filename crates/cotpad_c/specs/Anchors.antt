@@ -1,11 +1,13 @@
 -- Anchors as a host reads them, and as it gives them back.
-use Rattle.std.specs.Prelude.{ℕ, ◌==◌, ◌&&◌, Bool, Option, Some, None, nat_le, nat_lt, option_map, if◌then◌else◌}
+use Rattle.std.specs.Prelude.{ℕ, ◌==◌, ◌&&◌, Bool, List, Option, Some, None, map, nat_le, nat_lt, option_map, if◌then◌else◌}
 use Rattle.op_name.specs.declared.name.TheConstants.{SITES, NUMBERS}
 use Rattle.op_name.specs.declared.limits.TheConstants.{LETTERS}
+use Rattle.context_diff.specs.Operations.{OpData}
 use Rattle.tombstone_text.specs.declared.cell.CellId.{CellId}
 use Rattle.site_anchors.specs.declared.anchors.Anchor.{Anchor}
 use Rattle.site_anchors.specs.declared.anchors.Anchor.TheVariants.{Start, End, After, Before}
-use Rattle.cotpad_c.specs.declared.kinds.TheConstants.{START, END, AFTER, BEFORE}
+use Rattle.site_anchors.specs.Anchors.{place_told}
+use Rattle.cotpad_c.specs.declared.kinds.TheConstants.{START, END, AFTER, BEFORE, NO_PLACE}
 use Rattle.cotpad_c.specs.declared.anchors.CotpadAnchor.{CotpadAnchor}
 
 -- an end of the text is told by the kind alone
@@ -40,3 +42,21 @@ anchor_given a =
     else if a.kind == AFTER then option_map (λ id. After id) (cell_given a)
     else if a.kind == BEFORE then option_map (λ id. Before id) (cell_given a)
     else None
+
+-- the place of an anchor, if there is one
+abbrev pub place_of_any : List OpData → Option Anchor → Option ℕ
+place_of_any h None = None
+place_of_any h (Some a) = place_told h a
+
+-- where what a host gives stands: it is an anchor, and the history has its character
+abbrev pub place_given : List OpData → CotpadAnchor → Option ℕ
+place_given h a = place_of_any h (anchor_given a)
+
+-- what a host reads of a place, if there is one
+abbrev pub place_number : Option ℕ → ℕ
+place_number None = NO_PLACE
+place_number (Some v) = v
+
+-- what it reads of the places of many
+abbrev pub places_given : List OpData → List CotpadAnchor → List ℕ
+places_given h given = map (λ a. place_number (place_given h a)) given

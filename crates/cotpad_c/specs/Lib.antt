@@ -1,5 +1,6 @@
 pub mod Anchors
 pub mod Changes
+pub mod Code
 pub mod Exchanges
 pub mod Handles
 pub mod Held
@@ -8,6 +9,7 @@ pub mod Lending
 pub mod Numbers
 pub mod Operations
 pub mod Pasts
+pub mod Positions
 pub mod Refusals
 pub mod Runs
 pub mod Saving

@@ -45,12 +45,18 @@ pub record AreOperationKinds : Type 0 where
   pub undo : kind.UNDO ≡ 3
   pub redo : kind.REDO ≡ 4
 
--- where an anchor is
+-- where an anchor is, and what is told in place of its place where it has none
 pub record AreAnchorKinds : Type 0 where
   pub start : kind.START ≡ 1
   pub end : kind.END ≡ 2
   pub after : kind.AFTER ≡ 3
   pub before : kind.BEFORE ≡ 4
+  pub no_place : kind.NO_PLACE ≡ 4294967295
+
+-- in what offsets are counted
+pub record AreMeasures : Type 0 where
+  pub bytes : kind.BYTES ≡ 1
+  pub units : kind.UNITS ≡ 2
 
 -- what became of a delivery or a release
 pub record AreVerdictKinds : Type 0 where
@@ -82,5 +88,6 @@ pub record AreTheNumbers : Type 0 where
   pub statuses : AreStatuses
   pub operations : AreOperationKinds
   pub anchors : AreAnchorKinds
+  pub measures : AreMeasures
   pub verdicts : AreVerdictKinds
   pub limits : AreLimits

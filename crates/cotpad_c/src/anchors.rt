@@ -1,18 +1,20 @@
 //! Cursors that stay where they belong while others edit.
 
-ghost use Rattle.std.specs.Prelude.{◌≡◌, ◌<◌, ℕ, Some, None, length, slice_get};
+ghost use Rattle.std.specs.Prelude.{◌≡◌, ◌⊎◌, ◌++◌, ◌∷◌, [], ◌<◌, ◌≤◌, ℕ, IfOk, OnOk, Some, None, drop, length, map, slice_get};
 ghost use Rattle.context_diff.specs.Replays.{shown};
 ghost use Rattle.site_anchors.specs.declared.anchors.Anchor.{Anchor};
 ghost use Rattle.site_anchors.specs.Anchors.{anchors_of, place_told};
-ghost use Rattle.cotpad_c.specs.declared.status.TheConstants.{OK, PLACE_OUT, NO_NAME, NONE};
-ghost use Rattle.cotpad_c.specs.Anchors.{end_told, cell_told, anchor_told, cell_given, anchor_given};
+ghost use Rattle.cotpad_c.specs.declared.status.TheConstants.{OK, NO_MEMORY, PLACE_OUT, NO_NAME, NONE, TOO_SHORT};
+ghost use Rattle.cotpad_c.specs.Anchors.{end_told, cell_told, anchor_told, cell_given, anchor_given, place_number, places_given};
+ghost use Rattle.cotpad_c.specs.Code.{nowhere, anchor_or_nowhere};
 
 use crate::edits::name_of;
-use crate::kinds::{AFTER, BEFORE, END, START};
+use crate::kinds::{AFTER, BEFORE, END, NO_PLACE, START};
 use crate::status;
 use cot_site::Site;
-use op_name::LETTERS;
+use op_name::{LETTERS, Memory, Name};
 use site_anchors::{Anchor, Side};
+use std::alloc::Global;
 use tombstone_text::CellId;
 
 /// An anchor as a host reads it: which kind it is, and beside which character of which insert.
@@ -101,6 +103,101 @@ fn place_told(site: &Site, anchor: &Anchor, place: &mut u32) -> u32
             status::OK
         }
         None => status::NONE,
+    }
+}
+
+/// Tells the places of many anchors, in their order; `NO_PLACE` of each that is no anchor, or whose character the site hasn't.
+pub(crate) fn places_of(
+    alloc: Global,
+    site: &Site,
+    given: &[CotpadAnchor],
+    places: &mut [u32],
+) -> u32
+    ensures short { length places.old < length given.now → (result ≡ TOO_SHORT) × (places.new ≡ places.old) }
+    ensures told { length given.now ≤ length places.old
+        → (result ≡ NO_MEMORY) × (places.new ≡ places.old)
+        ⊎ (result ≡ OK) × (places.new ≡ places_given site.now.history given.now ++ drop (length given.now) places.old) }
+{
+    if places.len() < given.len() {
+        return status::TOO_SHORT;
+    }
+    site.known();
+    match read_anchors(alloc, given) {
+        Ok(anchors) => tell_anchors(alloc, site, anchors.as_slice(), places),
+        Err(_) => status::NO_MEMORY,
+    }
+}
+
+// The same of anchors.
+fn tell_anchors(alloc: Global, site: &Site, anchors: &[Anchor], places: &mut [u32]) -> u32
+    requires { length anchors.now ≤ length places.old }
+    ensures { (result ≡ NO_MEMORY) × (places.new ≡ places.old)
+        ⊎ (result ≡ OK)
+        × (places.new ≡ map place_number (map (place_told site.now.history) anchors.now) ++ drop (length anchors.now) places.old) }
+{
+    match site_anchors::places_of(alloc, site, anchors) {
+        Ok(found) => {
+            tell_all(found.as_slice(), places);
+            status::OK
+        }
+        Err(_) => status::NO_MEMORY,
+    }
+}
+
+// Tells the places in the front of a buffer that has room for them.
+fn tell_all(found: &[Option<u32>], places: &mut [u32])
+    requires { length found.now ≤ length places.old }
+    ensures { places.new ≡ map place_number found.now ++ drop (length found.now) places.old }
+{
+    for (i, place) in found.iter().enumerate() {
+        places[i] = place_number(place);
+    }
+}
+
+fn place_number(place: &Option<u32>) -> u32
+    ensures { result ≡ place_number place.now }
+{
+    match place {
+        Some(there) => *there,
+        None => NO_PLACE,
+    }
+}
+
+// The anchors that a host gives; for what is none one beside a character that no site has.
+fn read_anchors(alloc: Global, given: &[CotpadAnchor]) -> Result<Vec<Anchor>, Memory>
+    ensures { IfOk result (λ anchors. anchors.items ≡ map anchor_or_nowhere given.now) }
+{
+    let mut anchors = Vec::new(alloc);
+    for anchor in given {
+        add_anchor(&mut anchors, anchor)?;
+    }
+    Ok(anchors)
+}
+
+// Adds one of them.
+fn add_anchor(anchors: &mut Vec<Anchor>, given: &CotpadAnchor) -> Result<(), Memory>
+    ensures { OnOk result (anchors.new.items ≡ anchors.old.items ++ anchor_or_nowhere given.now ∷ []) }
+{
+    anchors.push(anchor_or_nowhere(given))?;
+    Ok(())
+}
+
+fn anchor_or_nowhere(given: &CotpadAnchor) -> Anchor
+    ensures { result ≡ anchor_or_nowhere given.now }
+{
+    match anchor_given(given) {
+        Some(anchor) => anchor,
+        None => Anchor::After(nowhere()),
+    }
+}
+
+// A cell that no insert puts: past the last one of the longest.
+fn nowhere() -> CellId
+    ensures { result ≡ nowhere }
+{
+    CellId {
+        name: Name { site: 0, number: 1 },
+        offset: LETTERS,
     }
 }
 

@@ -1,6 +1,6 @@
 //! What a host calls.
 
-ghost use Rattle.std.specs.Prelude.{◌≡◌, ◌≢◌, ◌⊎◌, ◌↔◌, ◌+◌, ◌<◌, ◌≤◌, ℕ, [], IsSome, IsSomeAnd, IsUtf8, Some, None, chars, drop, false, length, map, min, slice_get, take, true};
+ghost use Rattle.std.specs.Prelude.{◌≡◌, ◌≢◌, ◌⊎◌, ◌↔◌, ◌+◌, ◌++◌, ◌<◌, ◌≤◌, ℕ, [], IsSome, IsSomeAnd, IsUtf8, Some, None, chars, drop, false, length, map, min, slice_get, take, true};
 ghost use Rattle.std.specs.Char.{IsScalar};
 ghost use Rattle.op_name.specs.NameData.{NameData, IsName};
 ghost use Rattle.op_name.specs.declared.name.TheConstants.{SITES};
@@ -8,7 +8,7 @@ ghost use Rattle.op_name.specs.declared.member.Member.TheVariants.{Original};
 ghost use Rattle.context_vector.specs.Contexts.{IsContext};
 ghost use Rattle.context_diff.specs.Histories.{generation_in, is_known};
 ghost use Rattle.context_diff.specs.Operations.{OpData};
-ghost use Rattle.context_diff.specs.Replays.{Cell, shown, text_of};
+ghost use Rattle.context_diff.specs.Replays.{Cell, characters_of, shown, text_of};
 ghost use Rattle.site_answers.specs.declared.release.Release.{Release};
 ghost use Rattle.site_answers.specs.declared.verdict.Verdict.TheVariants.{Integrated};
 ghost use Rattle.wire_codec.specs.declared.version.Version.TheVariants.{Two};
@@ -29,6 +29,9 @@ ghost use Rattle.peer_exchange.specs.Closing.{IsFinished, IsUnclosed, IsUnfinish
 ghost use Rattle.site_anchors.specs.declared.anchors.Anchor.{Anchor};
 ghost use Rattle.site_anchors.specs.declared.anchors.Side.TheVariants.{Left, Right};
 ghost use Rattle.site_anchors.specs.Anchors.{anchors_of, place_told};
+ghost use Rattle.past_view.specs.Lines.{address_of, place_at};
+ghost use Rattle.tombstone_text.specs.declared.measure.Measure.{Measure};
+ghost use Rattle.text_positions.specs.Offsets.{offset_at, HasNoPlace};
 ghost use Rattle.site_ranges.specs.Frames.{frames_of, lacked_by};
 ghost use Rattle.site_ranges.specs.Inserts.{names_at};
 ghost use Rattle.site_ranges.specs.Ranges.{text_at};
@@ -37,12 +40,13 @@ ghost use Rattle.participant.specs.Reached.{from, all_settled, IsHalfSettled};
 ghost use Rattle.cotpad_c.specs.declared.status.TheConstants.{OK, NO_MEMORY, SITE_OUT, PLACE_OUT, NO_CHARACTER, UNKNOWN, NO_NAME, NONE, TOO_SHORT, TOO_LONG, UNSETTLED, NO_SET};
 ghost use Rattle.cotpad_c.specs.declared.exports.TheConstants.{VERSION};
 ghost use Rattle.cotpad_c.specs.Operations.{member_told, operation_told, original_told, text_told};
-ghost use Rattle.cotpad_c.specs.Anchors.{anchor_told, anchor_given};
+ghost use Rattle.cotpad_c.specs.Anchors.{anchor_told, anchor_given, places_given};
 ghost use Rattle.cotpad_c.specs.Changes.{WroteChanges};
 ghost use Rattle.cotpad_c.specs.Hosting.{hosting};
 ghost use Rattle.cotpad_c.specs.Exchanges.{Answers, Closes};
 ghost use Rattle.cotpad_c.specs.Numbers.{AreTheNumbers};
 ghost use Rattle.cotpad_c.specs.Pasts.{set_told, IsNoPast, IsPast};
+ghost use Rattle.cotpad_c.specs.Positions.{measure_given};
 ghost use Rattle.cotpad_c.specs.Refusals.{IsLogRefused, IsRefused};
 ghost use Rattle.cotpad_c.specs.Runs.{IsTyped, IsUnbegun, IsCut, IsUndone, IsRedone};
 ghost use Rattle.cotpad_c.specs.Saving.{Loads};
@@ -58,8 +62,8 @@ use crate::refusals::log_refused;
 use crate::status::{NO_MEMORY, OK, SITE_OUT, TOO_LONG};
 use crate::verdict::CotpadVerdict;
 use crate::{
-    anchors, changes, edits, exchange, frames, making, pasts, ranges, reading, receiving, runs,
-    turns,
+    anchors, changes, edits, exchange, frames, making, pasts, positions, ranges, reading,
+    receiving, runs, turns,
 };
 use op_name::SITES;
 use peer_exchange::MAX_MESSAGE;
@@ -440,7 +444,105 @@ pub extern "C" fn cotpad_anchor_place(
     ensures no_name { anchor_given anchor.now ≡ None → (result ≡ NO_NAME) × (place.new ≡ place.old) }
     ensures same { site.new.site ≡ site.old.site }
 {
-    anchors::place_of(site.inner().site(), anchor, place)
+    let hosted = site.inner();
+    hosted.note_moves();
+    anchors::place_of(hosted.site(), anchor, place)
+}
+
+/// The places of many anchors, in their order; `NO_PLACE` of each that is no anchor, or whose character the site hasn't.
+#[unsafe(no_mangle)]
+pub extern "C" fn cotpad_anchor_places(
+    alloc: Global,
+    site: &mut CotpadSite,
+    given: &[CotpadAnchor],
+    places: &mut [u32],
+) -> u32
+    requires { IsSome site.old.site }
+    ensures short { length places.old < length given.now → (result ≡ TOO_SHORT) × (places.new ≡ places.old) }
+    ensures told { length given.now ≤ length places.old
+        → (result ≡ NO_MEMORY) × (places.new ≡ places.old)
+        ⊎ (result ≡ OK)
+        × (places.new ≡ places_given (held_site site.old.site).history given.now ++ drop (length given.now) places.old) }
+    ensures same { site.new.site ≡ site.old.site }
+{
+    let hosted = site.inner();
+    hosted.note_moves();
+    anchors::places_of(alloc, hosted.site(), given, places)
+}
+
+/// The offset of the place after so many shown characters, counted as the measure says.
+#[unsafe(no_mangle)]
+pub extern "C" fn cotpad_offset(
+    site: &mut CotpadSite,
+    measure: u32,
+    place: u32,
+    offset: &mut u64,
+) -> u32
+    requires { IsSome site.old.site }
+    ensures told { (m : Measure) (o : ℕ) → measure_given measure ≡ Some m
+        → offset_at m (characters_of (held_site site.old.site).history) place ≡ Some o → (result ≡ OK) × (offset.new ≡ o) }
+    ensures past { (m : Measure) → measure_given measure ≡ Some m
+        → length (characters_of (held_site site.old.site).history) < place → (result ≡ PLACE_OUT) × (offset.new ≡ offset.old) }
+    ensures no_name { measure_given measure ≡ None → (result ≡ NO_NAME) × (offset.new ≡ offset.old) }
+    ensures same { site.new.site ≡ site.old.site }
+{
+    positions::offset(site.inner().site(), measure, place, offset)
+}
+
+/// The place that has this offset, counted as the measure says: no other place has it.
+#[unsafe(no_mangle)]
+pub extern "C" fn cotpad_place_at(
+    site: &mut CotpadSite,
+    measure: u32,
+    offset: u64,
+    place: &mut u32,
+) -> u32
+    requires { IsSome site.old.site }
+    ensures found { (m : Measure) (v : ℕ) → measure_given measure ≡ Some m
+        → offset_at m (characters_of (held_site site.old.site).history) v ≡ Some offset → (result ≡ OK) × (place.new ≡ v) }
+    ensures none { (m : Measure) → measure_given measure ≡ Some m
+        → HasNoPlace m (characters_of (held_site site.old.site).history) offset → (result ≡ NONE) × (place.new ≡ place.old) }
+    ensures no_name { measure_given measure ≡ None → (result ≡ NO_NAME) × (place.new ≡ place.old) }
+    ensures same { site.new.site ≡ site.old.site }
+{
+    positions::place_at(site.inner().site(), measure, offset, place)
+}
+
+/// The line and the column of the place after so many shown characters, each from 0: how many line feeds are among these, and how many
+/// characters stand behind the last of them.
+#[unsafe(no_mangle)]
+pub extern "C" fn cotpad_line(
+    site: &mut CotpadSite,
+    place: u32,
+    line: &mut u32,
+    column: &mut u32,
+) -> u32
+    requires { IsSome site.old.site }
+    ensures told { (l c : ℕ) → address_of (characters_of (held_site site.old.site).history) place ≡ Some (l, c)
+        → (result ≡ OK) × (line.new ≡ l) × (column.new ≡ c) }
+    ensures past { length (characters_of (held_site site.old.site).history) < place
+        → (result ≡ PLACE_OUT) × (line.new ≡ line.old) × (column.new ≡ column.old) }
+    ensures same { site.new.site ≡ site.old.site }
+{
+    positions::line(site.inner().site(), place, line, column)
+}
+
+/// The place that has this line and column.
+#[unsafe(no_mangle)]
+pub extern "C" fn cotpad_line_place(
+    site: &mut CotpadSite,
+    line: u32,
+    column: u32,
+    place: &mut u32,
+) -> u32
+    requires { IsSome site.old.site }
+    ensures found { (v : ℕ) → place_at (characters_of (held_site site.old.site).history) line column ≡ Some v
+        → (result ≡ OK) × (place.new ≡ v) }
+    ensures none { place_at (characters_of (held_site site.old.site).history) line column ≡ None
+        → (result ≡ NONE) × (place.new ≡ place.old) }
+    ensures same { site.new.site ≡ site.old.site }
+{
+    positions::line_place(site.inner().site(), line, column, place)
 }
 
 /// What the integrated operation at this index is, and who made it. They stand in the order of integration, from 0.

@@ -83,6 +83,14 @@ impl Hosted {
         &mut self.site
     }
 
+    /// Notes how places move over the operations that the site executed, as far as there is memory for it, so that places of anchors are
+    /// found in little time. Nothing that contracts see changes.
+    pub(crate) fn note_moves(&mut self)
+        ensures { self.new ≡ self.old }
+    {
+        self.site.note_moves();
+    }
+
     /// Forgets what was released: so each call that can change the site begins.
     pub(crate) fn forget(&mut self)
         ensures { self.new ≡ hosting self.old.site }

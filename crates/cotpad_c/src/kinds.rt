@@ -1,4 +1,4 @@
-//! The numbers by which a host is told what an operation or an anchor is, and what became of a delivery.
+//! The numbers by which a host is told what an operation or an anchor is, and what became of a delivery, and says in what it counts.
 
 /// An operation that inserts a text.
 pub const INSERT: u32 = 1;
@@ -23,6 +23,15 @@ pub const AFTER: u32 = 3;
 
 /// An anchor in front of a character.
 pub const BEFORE: u32 = 4;
+
+/// The place of an anchor, among those of many, that has none at the site. It is a place only of a text of so many shown characters.
+pub const NO_PLACE: u32 = u32::MAX;
+
+/// Offsets are counted in bytes of UTF-8.
+pub const BYTES: u32 = 1;
+
+/// Offsets are counted in units of UTF-16.
+pub const UNITS: u32 = 2;
 
 /// It is part of the site's history now.
 pub const INTEGRATED: u32 = 1;

@@ -23,6 +23,7 @@ mod making;
 mod operation;
 mod parts;
 mod pasts;
+mod positions;
 mod ranges;
 mod reading;
 mod receiving;

@@ -33,7 +33,7 @@ pub const NUMBER_FULL: u32 = 9;
 /// More names are undone than the context of an operation carries.
 pub const CONTEXT_FULL: u32 = 10;
 
-/// No insert or delete can have this name.
+/// No insert or delete can have this name; or no anchor and no measure is told by these numbers.
 pub const NO_NAME: u32 = 11;
 
 /// There is nothing to tell: no operation at this index, none that is ready, no character at this place.

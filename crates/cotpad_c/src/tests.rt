@@ -562,6 +562,138 @@ fn an_anchor_keeps_to_a_character(rt: HostRuntime) -> Result<(), Fail> {
 }
 
 #[test]
+fn the_places_of_many_anchors_are_told_together(rt: HostRuntime) -> Result<(), Fail> {
+    let alloc = rt.alloc();
+    let mut places = [7u32; 5];
+    let mut site = opened(alloc)?;
+    assert_eq!(rt; exports::cotpad_insert(&mut site, 0, 97), status::OK);
+    assert_eq!(rt; exports::cotpad_insert(&mut site, 0, 98), status::OK);
+    // Behind the a, at the front, no kind of an anchor, and behind a character that the site hasn't.
+    let given = [
+        anchor(kinds::AFTER, 1),
+        anchor(kinds::START, 0),
+        anchor(9, 1),
+        anchor(kinds::AFTER, 3),
+    ];
+    assert_eq!(rt;
+        exports::cotpad_anchor_places(alloc, &mut site, &given, &mut places[..3]),
+        status::TOO_SHORT
+    );
+    assert_eq!(rt; places, [7, 7, 7, 7, 7]);
+    assert_eq!(rt;
+        exports::cotpad_anchor_places(alloc, &mut site, &given, &mut places),
+        status::OK
+    );
+    assert_eq!(rt; places, [2, 0, kinds::NO_PLACE, kinds::NO_PLACE, 7]);
+    exports::cotpad_close(alloc, &mut site);
+    site.let_go();
+    Ok(())
+}
+
+/// An anchor at the first character of an insert of site 5.
+fn anchor(kind: u32, number: u32) -> CotpadAnchor {
+    CotpadAnchor {
+        kind,
+        site: 5,
+        number,
+        offset: 0,
+    }
+}
+
+/// A site whose text has a character of each length in UTF-8 but three, and two lines.
+fn written(alloc: Global) -> Result<CotpadSite, Fail>
+    ensures { IfOk result (λ s. IsSome s.site) }
+{
+    let mut made = 0;
+    let mut site = opened(alloc)?;
+    let text = b"a\xC3\xA9\n\xF0\x9F\x98\x80b";
+    if exports::cotpad_insert_text(alloc, &mut site, 0, text, &mut made) != status::OK {
+        exports::cotpad_close(alloc, &mut site);
+        site.let_go();
+        return Err(Fail::new("out of memory"));
+    }
+    Ok(site)
+}
+
+#[test]
+fn places_are_told_by_bytes_and_by_units(rt: HostRuntime) -> Result<(), Fail> {
+    let alloc = rt.alloc();
+    let mut offset = 7u64;
+    let mut place = 7;
+    let mut site = written(alloc)?;
+    assert_eq!(rt;
+        exports::cotpad_offset(&mut site, kinds::BYTES, 4, &mut offset),
+        status::OK
+    );
+    assert_eq!(rt; offset, 8);
+    assert_eq!(rt;
+        exports::cotpad_offset(&mut site, kinds::UNITS, 4, &mut offset),
+        status::OK
+    );
+    assert_eq!(rt; offset, 5);
+    assert_eq!(rt;
+        exports::cotpad_offset(&mut site, kinds::UNITS, 6, &mut offset),
+        status::PLACE_OUT
+    );
+    assert_eq!(rt;
+        exports::cotpad_offset(&mut site, 3, 4, &mut offset),
+        status::NO_NAME
+    );
+    assert_eq!(rt; offset, 5);
+    assert_eq!(rt;
+        exports::cotpad_place_at(&mut site, kinds::UNITS, 5, &mut place),
+        status::OK
+    );
+    assert_eq!(rt; place, 4);
+    assert_eq!(rt;
+        exports::cotpad_place_at(&mut site, kinds::BYTES, 3, &mut place),
+        status::OK
+    );
+    assert_eq!(rt; place, 2);
+    // Between the two units of a character.
+    assert_eq!(rt;
+        exports::cotpad_place_at(&mut site, kinds::UNITS, 4, &mut place),
+        status::NONE
+    );
+    assert_eq!(rt; place, 2);
+    exports::cotpad_close(alloc, &mut site);
+    site.let_go();
+    Ok(())
+}
+
+#[test]
+fn places_are_told_by_lines_and_columns(rt: HostRuntime) -> Result<(), Fail> {
+    let alloc = rt.alloc();
+    let mut line = 7;
+    let mut column = 7;
+    let mut place = 7;
+    let mut site = written(alloc)?;
+    assert_eq!(rt;
+        exports::cotpad_line(&mut site, 4, &mut line, &mut column),
+        status::OK
+    );
+    assert_eq!(rt; line, 1);
+    assert_eq!(rt; column, 1);
+    assert_eq!(rt;
+        exports::cotpad_line(&mut site, 6, &mut line, &mut column),
+        status::PLACE_OUT
+    );
+    assert_eq!(rt;
+        exports::cotpad_line_place(&mut site, 0, 2, &mut place),
+        status::OK
+    );
+    assert_eq!(rt; place, 2);
+    assert_eq!(rt;
+        exports::cotpad_line_place(&mut site, 0, 3, &mut place),
+        status::NONE
+    );
+    assert_eq!(rt; place, 2);
+    exports::cotpad_close(alloc, &mut site);
+    site.let_go();
+    Ok(())
+}
+
+#[test]
 fn how_often_and_by_whom_a_name_was_turned(rt: HostRuntime) -> Result<(), Fail> {
     let alloc = rt.alloc();
     let mut made = 9;

@@ -10,7 +10,7 @@ from typing import Any
 VERSION = 4
 FILE = "libcotpad.so.4"
 
-u32, size = ctypes.c_uint32, ctypes.c_size_t
+u32, u64, size = ctypes.c_uint32, ctypes.c_uint64, ctypes.c_size_t
 byte = ctypes.c_uint8
 
 
@@ -81,7 +81,7 @@ def _call(name: str, result: Any, *params: Any) -> Callable[..., int]:
 _site, _verdict, _needed = ctypes.POINTER(Handle), ctypes.POINTER(Verdict), ctypes.POINTER(size)
 _read, _out, _count = ctypes.c_void_p, ctypes.POINTER(byte), ctypes.POINTER(u32)
 _counts, _member, _changes = ctypes.POINTER(Count), ctypes.POINTER(Member), ctypes.POINTER(Change)
-_anchor = ctypes.POINTER(Anchor)
+_anchor, _offset = ctypes.POINTER(Anchor), ctypes.POINTER(u64)
 
 version = _call("version", u32)
 if version() != VERSION:
@@ -107,6 +107,11 @@ names = _call("names", u32, _site, u32, u32, _member, size, _needed)
 anchor_left = _call("anchor_left", u32, _site, u32, _anchor)
 anchor_right = _call("anchor_right", u32, _site, u32, _anchor)
 anchor_place = _call("anchor_place", u32, _site, _anchor, _count)
+anchor_places = _call("anchor_places", u32, _site, _anchor, size, _count, size)
+offset = _call("offset", u32, _site, u32, u32, _offset)
+place_at = _call("place_at", u32, _site, u32, u64, _count)
+line = _call("line", u32, _site, u32, _count, _count)
+line_place = _call("line_place", u32, _site, u32, u32, _count)
 operation_at = _call("operation_at", u32, _site, u32, ctypes.POINTER(Operation))
 operation_text = _call("operation_text", u32, _site, u32, _out, size, _needed)
 frame = _call("frame", u32, _site, u32, _out, size, _needed)

@@ -9,7 +9,7 @@ from collections.abc import Callable, Iterable, Iterator, Mapping
 from typing import BinaryIO, Literal, Optional
 
 from .errors import InUse, NoDocument, NotSaved, Refused, Unsettled
-from .site import Batch, History, Incoming, Site, Taken, Told
+from .site import Batch, History, Incoming, Site, Taken, Told, Unit
 from .storage import Path, write_safely
 from .values import Anchor, Change, Character, Delivered, Edit, Name, Operation
 
@@ -317,6 +317,26 @@ class Document:
     def place_of(self, anchor: Anchor) -> Optional[int]:
         """How many shown characters stand before an anchor: see `Site.place_of`."""
         return self._open.place_of(anchor)
+
+    def places_of(self, anchors: Iterable[Anchor]) -> list[Optional[int]]:
+        """How many shown characters stand before each of many anchors: see `Site.places_of`."""
+        return self._open.places_of(anchors)
+
+    def offset(self, place: int, unit: Unit) -> int:
+        """How many bytes of UTF-8, or units of UTF-16, stand before a place: see `Site.offset`."""
+        return self._open.offset(place, unit)
+
+    def place_at(self, offset: int, unit: Unit) -> Optional[int]:
+        """The place that has this offset: see `Site.place_at`."""
+        return self._open.place_at(offset, unit)
+
+    def line(self, place: int) -> tuple[int, int]:
+        """The line and the column of a place, both from 0: see `Site.line`."""
+        return self._open.line(place)
+
+    def place_in(self, line: int, column: int) -> Optional[int]:
+        """The place that has this line and column: see `Site.place_in`."""
+        return self._open.place_in(line, column)
 
     def generation(self, name: tuple[int, int]) -> int:
         """How often this insert or delete was undone and redone: an odd number while it is undone."""

@@ -19,7 +19,12 @@ from .values import Anchor, AnchorKind, Became, Change, Character, Delivered, Ed
 KEPT = 1 << 20
 # Where the frame of an insert of several characters has them, each by four bytes.
 TEXT = 17
+# Told in place of a place.
+NO_PLACE = (1 << 32) - 1
 
+# In what an offset counts: bytes of UTF-8, or units of UTF-16.
+Unit = Literal["utf-8", "utf-16"]
+UNITS = {"utf-8": 1, "utf-16": 2}
 
 # Who is told by what the shown text changed.
 Told = Callable[[list[Change]], None]
@@ -528,16 +533,47 @@ class Site:
 
     def place_of(self, anchor: Anchor) -> Optional[int]:
         """How many shown characters stand before an anchor, of this site or of another one, also while its character is hidden; None where
-        the character's insert isn't integrated here. It costs a step for each operation that was integrated since that. Numbers that are
-        no anchor raise Refused with the status NO_NAME."""
+        the character's insert isn't integrated here. Numbers that are no anchor raise Refused with the status NO_NAME."""
         if not all(_fits(it) for it in anchor):
             raise Refused(Status.NO_NAME)
         place = lib.u32()
-        status = lib.anchor_place(self._at, lib.Anchor(*anchor), place)
-        if status == Status.NONE:
-            return None
-        must(status)
-        return place.value
+        return _found(lib.anchor_place(self._at, lib.Anchor(*anchor), place), place)
+
+    def places_of(self, anchors: Iterable[Anchor]) -> list[Optional[int]]:
+        """How many shown characters stand before each of many anchors, in their order: of each what `place_of` answers, and None of numbers
+        that are no anchor too."""
+        given = [lib.Anchor(*it) if all(_fits(number) for number in it) else lib.Anchor() for it in anchors]
+        places = (lib.u32 * len(given))()
+        must(lib.anchor_places(self._at, (lib.Anchor * len(given))(*given), len(given), places, len(given)))
+        return [None if place == NO_PLACE else place for place in places]
+
+    # Places as editors count them.
+
+    def offset(self, place: int, unit: Unit) -> int:
+        """How many bytes of UTF-8 (`"utf-8"`), or units of UTF-16 (`"utf-16"`), the first `place` shown characters have. A place past the
+        text raises Refused with the status PLACE_OUT."""
+        offset = lib.u64()
+        must(lib.offset(self._at, _measure(unit), _place(place), offset))
+        return offset.value
+
+    def place_at(self, offset: int, unit: Unit) -> Optional[int]:
+        """The place that has this offset; None where no place has it, as within a character, or past the text."""
+        place = lib.u32()
+        measure, fits = _measure(unit), 0 <= offset < 1 << 64
+        return _found(lib.place_at(self._at, measure, offset, place) if fits else Status.NONE, place)
+
+    def line(self, place: int) -> tuple[int, int]:
+        """The line and the column of a place, both from 0: how many line feeds are among the first `place` shown characters, and how many
+        characters stand behind the last of them. A place past the text raises Refused with the status PLACE_OUT."""
+        line, column = lib.u32(), lib.u32()
+        must(lib.line(self._at, _place(place), line, column))
+        return line.value, column.value
+
+    def place_in(self, line: int, column: int) -> Optional[int]:
+        """The place that has this line and column; None where the text has fewer lines, or this line fewer characters."""
+        place = lib.u32()
+        fits = _fits(line) and _fits(column)
+        return _found(lib.line_place(self._at, line, column, place) if fits else Status.NONE, place)
 
     def generation(self, name: tuple[int, int]) -> int:
         """How often this insert or delete was undone and redone: an odd number while it is undone. A name that the site hasn't raises
@@ -554,11 +590,7 @@ class Site:
         """Who made the latest undo or redo of this insert or delete; None where it was never undone. Of several who did so at once it is
         the one whose operation came here first, so another copy may tell another."""
         author = lib.u32()
-        status = lib.undoer(self._at, *_name(name), author)
-        if status == Status.NONE:
-            return None
-        must(status)
-        return author.value
+        return _found(lib.undoer(self._at, *_name(name), author), author)
 
     def frame(self, index: int) -> bytes:
         """The frame of the operation at this index of the history."""
@@ -676,6 +708,20 @@ def _index(index: int) -> int:
     if not _fits(index):
         raise Refused(Status.NONE)
     return index
+
+
+def _measure(unit: str) -> int:
+    if unit not in UNITS:
+        raise ValueError("the unit of an offset is 'utf-8' or 'utf-16'")
+    return UNITS[unit]
+
+
+def _found(status: int, number: ctypes.c_uint32) -> Optional[int]:
+    """What a call told, if there was anything to tell."""
+    if status == Status.NONE:
+        return None
+    must(status)
+    return number.value
 
 
 def _set(counts: Mapping[int, int], undone: Optional[Mapping[tuple[int, int], int]]) -> Optional[tuple[Any, int, Any, int]]:

@@ -1,5 +1,5 @@
 use Rattle.std.proofs.Common.{refl}
-use Rattle.cotpad_c.specs.Numbers.{AreStatuses, AreOperationKinds, AreAnchorKinds, AreVerdictKinds, AreLimits}
+use Rattle.cotpad_c.specs.Numbers.{AreStatuses, AreOperationKinds, AreAnchorKinds, AreMeasures, AreVerdictKinds, AreLimits}
 use Rattle.cotpad_c.proofs.exports.cotpad_version.Goals as goal
 
 statuses : AreStatuses
@@ -44,6 +44,13 @@ anchors = record {
   end = refl;
   after = refl;
   before = refl;
+  no_place = refl;
+}
+
+measures : AreMeasures
+measures = record {
+  bytes = refl;
+  units = refl;
 }
 
 verdicts : AreVerdictKinds
@@ -72,4 +79,4 @@ limits = record {
 
 pub returns-clause-numbers : goal.returns-clause-numbers
 returns-clause-numbers c =
-    record { version = refl; statuses = statuses; operations = operations; anchors = anchors; verdicts = verdicts; limits = limits }
+    record { version = refl; statuses = statuses; operations = operations; anchors = anchors; measures = measures; verdicts = verdicts; limits = limits }
