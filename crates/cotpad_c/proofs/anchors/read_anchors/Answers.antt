@@ -7,9 +7,8 @@ use Rattle.cotpad_c.proofs.anchors.read_anchors.Goals as goal
 
 pub loop-anchor-preserved : goal.loop-anchor-preserved
 loop-anchor-preserved c =
-    listed_more anchor_or_nowhere c.args.given.now c.loop-anchor.anchor-index c.anchor-item.result c.loop-anchor.anchors.items
-    c.add_anchor.new.anchors.items (omega (arith, c.loop-anchor-test.true)) c.anchor-item.is c.loop-anchor.invariant
-    c.in_ok-add_anchor.ensures
+    listed_more anchor_or_nowhere c.args.given.now c.loop-anchor.anchor-index _ c.loop-anchor.anchors.items c.add_anchor.new.anchors.items
+    (omega (arith, c.loop-anchor-test.true)) c.loop-anchor.invariant c.in_ok-add_anchor.ensures
 
 pub returns : goal.returns
 returns c =
