@@ -1,6 +1,6 @@
 -- Places past the text, and the only place of an offset.
 use Rattle.std.proofs.Common.{◌≡◌, ℕ, ◌<◌, ◌==◌, Bool, true, false, if◌then◌else◌, List, length, inl, inr, arith}
-use Rattle.std.specs.Prelude.{◌≢◌, Option, Some, None, nat_le}
+use Rattle.std.specs.Prelude.{◌≢◌, Some, None, nat_le}
 use Rattle.std.proofs.lemmas.Bool.{cases_lt, lt-leb, cond-false}
 use Rattle.past_view.specs.Lines.{address_of}
 use Rattle.tombstone_text.specs.declared.measure.Measure.{Measure}

@@ -18,7 +18,7 @@ use Rattle.site_anchors.specs.declared.anchors.Anchor.TheVariants.{Start, End, A
 use Rattle.site_anchors.specs.Anchors.{cell_at, puts, has_cell, shown_before, shown_up_to, where_had, place_told}
 use Rattle.cotpad_c.specs.declared.kinds.TheConstants.{AFTER, BEFORE}
 use Rattle.cotpad_c.specs.declared.anchors.CotpadAnchor.{CotpadAnchor}
-use Rattle.cotpad_c.specs.Anchors.{is_cell, cell_told, cell_given, anchor_told, anchor_given, place_given, place_number, place_of_any, places_given}
+use Rattle.cotpad_c.specs.Anchors.{is_cell, cell_told, cell_given, anchor_told, anchor_given, place_number, place_of_any, places_given}
 use Rattle.cotpad_c.specs.Code.{nowhere, anchor_or, anchor_or_nowhere}
 
 -- the numbers of a cell are in their ranges
