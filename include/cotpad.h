@@ -55,7 +55,8 @@ typedef uint32_t cotpad_status;
 #define COTPAD_GENERATION_FULL 8u /* it was undone and redone 65,535 times, as often as can be */
 #define COTPAD_NUMBER_FULL 9u     /* the site has made 1,000,000 inserts and deletes */
 #define COTPAD_CONTEXT_FULL 10u   /* more than 16,384 inserts and deletes were undone */
-#define COTPAD_NO_NAME 11u        /* a site above 1,023, or a number that is 0 or above 1,000,000; or no kind of an anchor, or no measure */
+#define COTPAD_NO_NAME 11u        /* a site above 1,023, or a number that is 0 or above 1,000,000; or no kind of an anchor, or no
+                                   * measure */
 #define COTPAD_NONE 12u           /* there is none: no operation at this index, none to release, no character at this place or of this anchor,
                                    * no undo of this name; or, of calls that take the operations before or from an index, or a range of them, the
                                    * history has fewer */

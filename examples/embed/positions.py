@@ -1,4 +1,4 @@
-"""Places as editors count them, and the cursors of three people, all of which are placed by one call: what positions.c does, from Python."""
+"""Places as editors count them, and the cursors of three people, placed by one call: what positions.c does, from Python."""
 from cotpad import Site
 
 

@@ -142,9 +142,11 @@ PROMISES = (
     ),
     Promise(
         "From C: positions",
-        "A place of the shown text is told by bytes, by units, or by a line and a column, and found by them; and each of many anchors has its "
-        "place.",
-        functions(EXPORTS, "cotpad_offset", "cotpad_place_at", "cotpad_line", "cotpad_line_place", "cotpad_anchor_place", "cotpad_anchor_places"),
+        "A place of the shown text is told by bytes, by units, or by a line and a column, and found by them; and each of many anchors "
+        "has its place.",
+        functions(
+            EXPORTS, "cotpad_offset", "cotpad_place_at", "cotpad_line", "cotpad_line_place", "cotpad_anchor_place", "cotpad_anchor_places",
+        ),
     ),
     Promise(
         "From C: deliveries",

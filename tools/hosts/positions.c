@@ -83,7 +83,8 @@ static void places(void) {
         if (place == cells) break;
         const letter *next = copy[place].is;
         one = 77;
-        for (size_t i = 1; i < strlen(next->utf8); i++) is(cotpad_place_at(&site, COTPAD_BYTES, bytes + i, &one), COTPAD_NONE, "within a character");
+        for (size_t i = 1; i < strlen(next->utf8); i++)
+            is(cotpad_place_at(&site, COTPAD_BYTES, bytes + i, &one), COTPAD_NONE, "within a character");
         if (next->scalar > 0xffff) is(cotpad_place_at(&site, COTPAD_UNITS, units + 1, &one), COTPAD_NONE, "between two units");
         if (next->scalar == '\n') is(cotpad_line_place(&site, line, column + 1, &one), COTPAD_NONE, "behind a line");
         is(one, 77, "what a call wrote that told nothing");

@@ -6,8 +6,9 @@ use Rattle.cotpad_c.proofs.anchors.tell_anchors.Goals as goal
 
 pub tell_all-requires : goal.tell_all-requires
 tell_all-requires c =
-    let is : c.as_slice.result.now ≡ map (place_told c.args.site.now.history) c.args.anchors.now = c.as_slice.ensures.value ∙ c.in-Ok.ensures in
-    omega (arith, ap (λ (l : List (Option ℕ)). length l) is, length-map c.args.anchors.now (place_told c.args.site.now.history), c.requires)
+    let h = c.args.site.now.history in
+    let is : c.as_slice.result.now ≡ map (place_told h) c.args.anchors.now = c.as_slice.ensures.value ∙ c.in-Ok.ensures in
+    omega (arith, ap (λ (l : List (Option ℕ)). length l) is, length-map c.args.anchors.now (place_told h), c.requires)
 
 pub returns-in-Ok : goal.returns-in-Ok
 returns-in-Ok c =

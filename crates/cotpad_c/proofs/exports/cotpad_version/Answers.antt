@@ -79,4 +79,12 @@ limits = record {
 
 pub returns-clause-numbers : goal.returns-clause-numbers
 returns-clause-numbers c =
-    record { version = refl; statuses = statuses; operations = operations; anchors = anchors; measures = measures; verdicts = verdicts; limits = limits }
+    record {
+      version = refl;
+      statuses = statuses;
+      operations = operations;
+      anchors = anchors;
+      measures = measures;
+      verdicts = verdicts;
+      limits = limits;
+    }
