@@ -1,0 +1,13 @@
+pub mod Steps
+pub mod TwoWays
+pub mod Numbers
+pub mod Lists
+pub mod InsertTexts
+pub mod NameFields
+pub mod OriginalFields
+pub mod UndoneFields
+pub mod Loops
+pub mod Points
+pub mod Stops
+pub mod Fronts
+pub mod WorkedCheckpoints

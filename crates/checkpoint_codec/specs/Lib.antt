@@ -1,0 +1,6 @@
+pub mod Spelling
+pub mod Spelled
+pub mod Reading
+pub mod Refusals
+pub mod Answers
+pub mod Code
