@@ -1,0 +1,17 @@
+pub mod Growth
+pub mod Latest
+pub mod SeenCounts
+pub mod Sorted
+pub mod Keeping
+pub mod SameValues
+pub mod Runs
+pub mod Places
+pub mod SameMarks
+pub mod Strays
+pub mod Finding
+pub mod Lifting
+pub mod Judging
+pub mod Spots
+pub mod Tops
+pub mod Passing
+pub mod Made

@@ -1,0 +1,9 @@
+pub mod Marks
+pub mod Covered
+pub mod Values
+pub mod Offers
+pub mod Laws
+pub mod Turns
+pub mod Verdicts
+pub mod Making
+pub mod Code
