@@ -11,3 +11,4 @@ pub mod Points
 pub mod Stops
 pub mod Fronts
 pub mod WorkedCheckpoints
+pub mod FrameSteps

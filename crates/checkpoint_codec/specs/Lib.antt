@@ -3,4 +3,5 @@ pub mod Spelled
 pub mod Reading
 pub mod Refusals
 pub mod Answers
+pub mod Frames
 pub mod Code
