@@ -9,6 +9,8 @@ mod cached;
 #[cfg(test)]
 mod calls;
 #[cfg(test)]
+mod checkpoints;
+#[cfg(test)]
 mod derived;
 #[cfg(test)]
 mod drawn;
