@@ -3,9 +3,10 @@
 The folder has `pad.json`, with each person's number, name and secret, and `N.cotpad`, the document of person N. A person is there
 once both are: a number whose document was made, and which pad.json lacks, is passed over, so no number is given twice.
 
-Between each two people there is a *link* each way, with the frames that are on their way. They go at once, unless one of the two is
-away: then they are held until both are here. When the server starts, those who are here exchange what they lack, and what others
-did and they lack is put onto the links again. So nothing is lost that was saved, wherever the server stopped.
+Between each two people there is a *link* each way, with the frames that are on their way; one that has none isn't kept. They go at
+once, unless one of the two is away: then they are held until both are here. When the server starts, those who are here exchange what
+they lack, and what others did and they lack is put onto the links again. So nothing is lost that was saved, wherever the server
+stopped.
 """
 import json
 import pathlib
@@ -46,7 +47,11 @@ class Pad:
         self.people = [Person(it["name"], it["token"], document, self._notes) for it, document in zip(kept, documents)]
         for person, it in zip(self.people, kept):
             person.away = it["away"]
-        self._links = {(a.number, b.number): _lacking(a, b) for a in self.people for b in self.people if a is not b}
+        self._links = {}
+        for a in self.people:
+            for b in self.people:
+                if a is not b:
+                    self._put(a, b, _lacking(a, b))
         self._flow()
 
     # The folder.
@@ -122,8 +127,7 @@ class Pad:
                 document.discard()
             raise Unknown(f"nobody new can be let in: {why}") from None
         for other in self.people[:-1]:
-            self._links[number, other.number] = []
-            self._links[other.number, number] = _lacking(other, person)
+            self._put(other, person, _lacking(other, person))
         self._flow()
         return person
 
@@ -209,17 +213,23 @@ class Pad:
     def _send(self, person, frames):
         for other in self.people:
             if other is not person:
-                self._links[person.number, other.number] += frames
+                self._put(person, other, frames)
+
+    def _put(self, a, b, frames):
+        """Puts frames onto the link from person a to person b."""
+        if frames:
+            self._links.setdefault((a.number, b.number), []).extend(frames)
 
     def _flow(self):
         """Lets all go that isn't held back: frames, and where cursors stand."""
-        for a in self.people:
-            for b in self.people:
-                if a is not b and not a.away and not b.away:
-                    frames, self._links[a.number, b.number] = self._links[a.number, b.number], []
-                    if frames:
-                        self._tell(b, b.receive(frames))
-                    b.seen[a.number] = a.cursor
+        here = {it.number: it for it in self.people if not it.away}
+        for a, b in [*self._links]:
+            if a in here and b in here:
+                self._tell(here[b], here[b].receive(self._links.pop((a, b))))
+        cursors = {number: it.cursor for number, it in here.items()}
+        for person in here.values():
+            person.seen.update(cursors)
+            del person.seen[person.number]
         people = self.told_people()
         for person in self.people:
             cursors = person.cursors() if person.tabs else []
