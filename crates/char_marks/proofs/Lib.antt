@@ -15,3 +15,5 @@ pub mod Spots
 pub mod Tops
 pub mod Passing
 pub mod Made
+pub mod Painted
+pub mod Told

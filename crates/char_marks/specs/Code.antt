@@ -4,3 +4,4 @@ pub mod Kept
 pub mod Cells
 pub mod Tops
 pub mod Spans
+pub mod Painting

@@ -9,6 +9,7 @@ mod laws;
 mod making;
 mod mark;
 mod marks;
+mod painting;
 mod reading;
 mod seeking;
 mod spot;

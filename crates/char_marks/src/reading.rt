@@ -24,7 +24,7 @@ use tombstone_text::Cells;
 
 // What is kept of the last mark so far.
 #[derive(Clone, Copy, Debug)]
-struct Top {
+pub(crate) struct Top {
     rank: u32,
     name: Name,
     value: Value,
@@ -72,7 +72,7 @@ impl Marks {
 }
 
 // Whether a value says bold.
-fn is_bold(value: &Option<Value>) -> bool
+pub(crate) fn is_bold(value: &Option<Value>) -> bool
     ensures { result ≡ is_bold value.now }
 {
     match value {
@@ -82,7 +82,7 @@ fn is_bold(value: &Option<Value>) -> bool
 }
 
 // Whether it says italic.
-fn is_italic(value: &Option<Value>) -> bool
+pub(crate) fn is_italic(value: &Option<Value>) -> bool
     ensures { result ≡ is_italic value.now }
 {
     match value {
@@ -92,7 +92,7 @@ fn is_italic(value: &Option<Value>) -> bool
 }
 
 // The colour that it says.
-fn colour_in(value: &Option<Value>) -> Option<u32>
+pub(crate) fn colour_in(value: &Option<Value>) -> Option<u32>
     ensures { result ≡ colour_in value.now }
 {
     match value {
@@ -124,7 +124,7 @@ fn last_value(
 }
 
 // The value of the last mark, if there is one.
-fn value_in(top: &Option<Top>) -> Option<Value>
+pub(crate) fn value_in(top: &Option<Top>) -> Option<Value>
     ensures { result ≡ option_map (λ t. t.value) top.now }
 {
     match top {
@@ -166,7 +166,7 @@ fn next_top(
 }
 
 // What is kept of a mark.
-fn top_of(mark: &Mark) -> Top
+pub(crate) fn top_of(mark: &Mark) -> Top
     ensures { result ≡ top_of mark.now }
 {
     Top {
@@ -177,7 +177,7 @@ fn top_of(mark: &Mark) -> Top
 }
 
 // Whether a mark comes after the last one so far.
-fn is_after(top: &Option<Top>, mark: &Mark) -> bool
+pub(crate) fn is_after(top: &Option<Top>, mark: &Mark) -> bool
     ensures { result ≡ is_after top.now mark.now }
 {
     match top {
@@ -189,7 +189,7 @@ fn is_after(top: &Option<Top>, mark: &Mark) -> bool
 }
 
 // Whether a value is of the kind.
-fn is_of(kind: &Kind, value: &Value) -> bool
+pub(crate) fn is_of(kind: &Kind, value: &Value) -> bool
     ensures { result ≡ is_of kind.now value.now }
 {
     match kind {
@@ -200,7 +200,7 @@ fn is_of(kind: &Kind, value: &Value) -> bool
 }
 
 // Whether the mark of the name is in force.
-fn is_in_force(raised: &Vector, name: &Name) -> bool
+pub(crate) fn is_in_force(raised: &Vector, name: &Name) -> bool
     ensures { result ≡ is_in_force raised.now.set.entries name.now }
 {
     raised.entry(name) % 2 == 0
