@@ -31,6 +31,8 @@ mod logs;
 #[cfg(test)]
 mod made;
 #[cfg(test)]
+mod marks;
+#[cfg(test)]
 mod messages;
 #[cfg(test)]
 mod participants;
