@@ -1,13 +1,14 @@
 //! The integrated operations of a site, with what they made of the text.
 
 ghost use Rattle.std.specs.Prelude.{◌≡◌, ◌+◌, ◌<◌, ◌≤◌, ◌↔◌, ◌++◌, ◌∷◌, true, false, List, []};
-ghost use Rattle.std.specs.Prelude.{IsTrue, IsNone, OnOk, OnErr, IfOk, IfSome, drop, fold, length, option_map, slice_get, vec_len, vec_capacity};
+ghost use Rattle.std.specs.Prelude.{IsTrue, IsNone, OnOk, OnErr, IfErr, IfOk, IfSome, drop, fold, length, option_map, slice_get, vec_len, vec_capacity};
 ghost use Rattle.op_name.specs.declared.member.Member.{Member};
 ghost use Rattle.op_name.specs.declared.member.Member.TheVariants.{Original};
 ghost use Rattle.context_diff.specs.Bases.{base_has};
 ghost use Rattle.context_vector.specs.Contexts.{has};
 ghost use Rattle.context_diff.specs.Operations.{OpData, context_of, is_original};
 ghost use Rattle.context_diff.specs.Histories.{context_of_all, is_known, IsNext, IsValid};
+ghost use Rattle.context_diff.specs.Letters.{IsUnmade};
 ghost use Rattle.context_diff.specs.Replays.{shown, text_of};
 ghost use Rattle.context_diff.specs.Ops.{data_of};
 ghost use Rattle.ttf_form.specs.Forms.{form_over, extent_of};
@@ -204,7 +205,8 @@ impl Replica {
 
     /// These characters as the text of an insert.
     pub fn letters(&self, text: &[char]) -> Result<Letters, LettersBad>
-        ensures { IfOk result (λ l. l ≡ text.now) }
+        ensures text { IfOk result (λ l. l ≡ text.now) }
+        ensures cause { IfErr result (IsUnmade text.now) }
     {
         Letters::new(*self.forms.allocator(), text)
     }
