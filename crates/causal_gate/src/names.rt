@@ -26,7 +26,8 @@ pub(crate) fn note(names: &mut IndexMap<Name, u64>, op: &Op, number: u64)
 
 /// Takes an insert or delete, which was the i-th of the list, out of the index; of an undo it takes nothing.
 pub(crate) fn forget(names: &mut IndexMap<Name, u64>, op: &Op)
-    ensures { (os : List OpData) (i : ℕ) → AreApart os → slice_get os i ≡ Some (data_of op.now) → AreNamed names.old.entries os → AreNamed names.new.entries (remove os i) }
+    ensures { (os : List OpData) (i : ℕ) → AreApart os → slice_get os i ≡ Some (data_of op.now) → AreNamed names.old.entries os
+        → AreNamed names.new.entries (remove os i) }
 {
     match op {
         Op::Insert { name, .. } | Op::Delete { name, .. } => drop_name(names, name),
@@ -37,7 +38,8 @@ pub(crate) fn forget(names: &mut IndexMap<Name, u64>, op: &Op)
 /// Puts a number under a name, in the room that was made for it.
 fn put(names: &mut IndexMap<Name, u64>, name: Name, number: u64)
     requires room { 0 < spare names.old }
-    ensures { (q : NameData) → lookup (name_eq q) names.new.entries ≡ (if name_eq name q then Some number else lookup (name_eq q) names.old.entries) }
+    ensures { (q : NameData)
+        → lookup (name_eq q) names.new.entries ≡ (if name_eq name q then Some number else lookup (name_eq q) names.old.entries) }
 {
     match names.insert(name, number) {
         Ok(_) => {}
@@ -47,7 +49,8 @@ fn put(names: &mut IndexMap<Name, u64>, name: Name, number: u64)
 
 /// Takes a name out.
 fn drop_name(names: &mut IndexMap<Name, u64>, name: &Name)
-    ensures { (q : NameData) → lookup (name_eq q) names.new.entries ≡ (if name_eq name.now q then None else lookup (name_eq q) names.old.entries) }
+    ensures { (q : NameData)
+        → lookup (name_eq q) names.new.entries ≡ (if name_eq name.now q then None else lookup (name_eq q) names.old.entries) }
 {
     names.swap_remove(name);
 }

@@ -62,7 +62,9 @@ impl Model for Pool {
 
     ghost view = { λ p. map op_in p.ops.items };
 
-    ghost invariant = { λ p. IsPool (map op_in p.ops.items) × AreHints (map op_in p.ops.items) p.hints.items × AreBefore (map op_in p.ops.items) p.befores.items × AreNamed p.names.entries (map op_in p.ops.items) × (length p.numbers.items ≡ length p.ops.items) × AreUndos p.undos.keys (map op_in p.ops.items) };
+    ghost invariant = { λ p. IsPool (map op_in p.ops.items) × AreHints (map op_in p.ops.items) p.hints.items
+        × AreBefore (map op_in p.ops.items) p.befores.items × AreNamed p.names.entries (map op_in p.ops.items)
+        × (length p.numbers.items ≡ length p.ops.items) × AreUndos p.undos.keys (map op_in p.ops.items) };
 }
 
 impl Pool {

@@ -24,7 +24,8 @@ pub(crate) fn note_undo(undos: &mut IndexSet<Op>, op: &Op) -> Result<(), Memory>
 
 /// Takes an undo, which was the i-th of the list, out of the index; of an insert or delete it takes nothing.
 pub(crate) fn forget_undo(undos: &mut IndexSet<Op>, op: &Op)
-    ensures { (os : List OpData) (i : ℕ) → AreApart os → slice_get os i ≡ Some (data_of op.now) → AreUndos undos.old.keys os → AreUndos undos.new.keys (remove os i) }
+    ensures { (os : List OpData) (i : ℕ) → AreApart os → slice_get os i ≡ Some (data_of op.now) → AreUndos undos.old.keys os
+        → AreUndos undos.new.keys (remove os i) }
 {
     if is_original(op) {
         return;

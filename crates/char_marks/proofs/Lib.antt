@@ -1,7 +1,6 @@
 pub mod Growth
 pub mod Latest
 pub mod SeenCounts
-pub mod Sorted
 pub mod Keeping
 pub mod SameValues
 pub mod Runs
@@ -10,7 +9,6 @@ pub mod SameMarks
 pub mod Strays
 pub mod Finding
 pub mod Lifting
-pub mod Judging
 pub mod Spots
 pub mod Tops
 pub mod Passing

@@ -19,7 +19,7 @@ use Rattle.visible_view.specs.View.{shown_cells, shown_places}
 use Rattle.fixed_replay.specs.Replayed.{IsReplayed}
 use Rattle.fixed_replay.proofs.CallerLemmas.{replayed_shown}
 use Rattle.cot_site.specs.Views.{shown_places_of}
-use Rattle.cot_site.proofs.CallerLemmas.{cells_counted}
+use Rattle.cot_site.proofs.CallerLemmas.{cells_counted, all_closed, all_ready}
 use Rattle.char_marks.specs.declared.value.Value.{Value}
 use Rattle.char_marks.specs.declared.taking.MarkVerdict.TheVariants.{Kept}
 use Rattle.char_marks.specs.Marks.{MarkData, KeptData, mark_named}
@@ -34,17 +34,6 @@ some_same x y e = cc
 
 -- ---- the context of all members
 
-pub all_ready : (h : List OpData) → IsComplete h → LacksNothing h (context_of_all h)
-all_ready h w m there = sym (w.holds m) ∙ there
-
-pub all_closed : (h : List OpData) → IsComplete h → IsClosed h (context_of_all h)
-all_closed h w s o n at is site number m there = w.holds m ∙ w.ready o at m there
-
-pub all_stray : (h : List OpData) → IsValid h → HasNoStray (context_of_all h)
-all_stray h v t g there =
-    let w = complete h v in
-    w.holds (Original t) ∙ (group_facts h w t g (sym (w.holds (Group t g)) ∙ there)).target
-
 cells_listed : (os : List OpData) (c : ContextData) → ((o : OpData) → Contains os o → has c (member_of o) ≡ true)
     → cells_in os c ≡ all_cells os
 cells_listed [] c there = refl
@@ -57,20 +46,6 @@ all_have : (h : List OpData) → IsComplete h → cells_in h (context_of_all h) 
 all_have h w = cells_listed h (context_of_all h) (λ o at. w.holds (member_of o) ∙ known_member h o at) ∙ sym (cells_counted h)
 
 -- ---- the places of shown cells
-
-same_places : (p : Cell → Bool) (cs : List CellData) (n : ℕ) → ((d : CellData) → IsIn d cs → cell_shown d ≡ p (cell_key d))
-    → places_from cell_shown n cs ≡ places_from p n (map cell_key cs)
-same_places p [] n same = refl
-same_places p (c ∷ cs) n same =
-    let rest = same_places p cs (suc n) (λ d i. same d (inr i)) in
-    let head = same c (inl refl) in
-    λ i. if head i then n ∷ rest i else rest i
-
-pub places_are : (h : List OpData) (cs : List CellData) → IsReplayed h cs → shown_places cs ≡ shown_places_of h
-places_are h cs is = same_places (is_shown h) cs 0 is.shown ∙ ap (places_from (is_shown h) 0) is.cells
-
-pub shown_count : (h : List OpData) (cs : List CellData) → IsReplayed h cs → length (shown_cells cs) ≡ length (shown h)
-shown_count h cs is = sym (length-map (filter cell_shown cs) cell_key) ∙ ap length (replayed_shown h cs is)
 
 module _ (p : Cell → Bool) where
   taken : (c : Cell) (cs : List Cell) (n : ℕ) → p c ≡ true → places_from p n (c ∷ cs) ≡ n ∷ places_from p (suc n) cs

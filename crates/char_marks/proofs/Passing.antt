@@ -34,53 +34,6 @@ pub record IsLeft (c : ContextData) (all : List CellData) (n : ℕ) (left : List
   pub at : slice_get (seen_of c all) n ≡ slice_get (seen_of c left) more
   pub count : n + length (seen_of c left) ≡ more + length (seen_of c all)
 
-pub left_all : (c : ContextData) (all left : List CellData) (n : ℕ) → left ≡ all → IsLeft c all n left n
-left_all c all left n e = record {
-  at = ap (λ (l : List CellData). slice_get (seen_of c l) n) (sym e);
-  count = ap (λ (l : List CellData). n + length (seen_of c l)) e;
-}
-
-pub left_found : (c : ContextData) (all left : List CellData) (n more : ℕ) (x : CellData) → IsLeft c all n left more
-    → Some x ≡ slice_get left 0
-    → has c (Original x.name) ≡ true
-    → more ≡ 0
-    → slice_get (seen_of c all) n ≡ Some (cell_key x)
-left_found c all left n more x is at there none =
-    let whole = read_one left (drop 1 left) x at refl in
-    is.at
-    ∙ (ap (λ (k : ℕ). slice_get (seen_of c left) k) none
-    ∙ ap (λ (l : List Cell). slice_get l 0) (ap (seen_of c) whole ∙ seen_first c x (drop 1 left) there))
-
-pub left_passed : (c : ContextData) (all left new : List CellData) (n more : ℕ) (x : CellData) → IsLeft c all n left more
-    → Some x ≡ slice_get left 0
-    → new ≡ drop 1 left
-    → has c (Original x.name) ≡ true
-    → 0 < more
-    → IsLeft c all n new (more - 1)
-left_passed c all left new n more x is at less there some =
-    let parts : seen_of c left ≡ cell_key x ∷ seen_of c new = ap (seen_of c) (read_one left new x at less) ∙ seen_first c x new there in
-    let long = ap (λ (l : List Cell). length l) parts in
-    let step : more ≡ suc (more - 1) = omega (arith, some) in
-    record {
-      at =
-          is.at
-          ∙ (ap (λ (l : List Cell). slice_get l more) parts ∙ ap (λ (k : ℕ). slice_get (cell_key x ∷ seen_of c new) k) step);
-      count = omega (arith, is.count, long, some);
-    }
-
-pub left_skipped : (c : ContextData) (all left new : List CellData) (n more : ℕ) (x : CellData) → IsLeft c all n left more
-    → Some x ≡ slice_get left 0
-    → new ≡ drop 1 left
-    → has c (Original x.name) ≡ false
-    → IsLeft c all n new more
-left_skipped c all left new n more x is at less lacks =
-    let parts : seen_of c left ≡ seen_of c new = ap (seen_of c) (read_one left new x at less) ∙ seen_skip c x new lacks in
-    let long = ap (λ (l : List Cell). length l) parts in
-    record {
-      at = is.at ∙ ap (λ (l : List Cell). slice_get l more) parts;
-      count = omega (arith, is.count, long);
-    }
-
 none_first : (left : List CellData) → None ≡ slice_get left 0 → left ≡ []
 none_first [] at = refl
 none_first (y ∷ ys) at = let some : None ≡ Some y = at in absurd (cc)
@@ -129,8 +82,3 @@ pub chunk_found : (c : ContextData) (chunks : List (List CellData)) (i left : �
 chunk_found c chunks i left x lt e =
     ap (λ (l : List Cell). slice_get l left) (chunks_seen c chunks i lt)
     ∙ get_within (seen_of c (get_or chunks i [])) (seen_of c (flat (drop (i + 1) chunks))) left x e
-
-pub chunks_end : (c : ContextData) (chunks : List (List CellData)) (i left : ℕ) → length chunks ≤ i
-    → slice_get (seen_of c (flat (drop i chunks))) left ≡ None
-chunks_end c chunks i left le =
-    ap (λ (l : List Cell). slice_get l left) (at_drop_all (λ (l : List (List CellData)). seen_of c (flat l)) chunks i le)

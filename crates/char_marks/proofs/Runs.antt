@@ -15,7 +15,7 @@ use Rattle.char_marks.specs.Values.{marks_of}
 use Rattle.char_marks.specs.Offers.{Offer, taking, flipping, IsTaking, IsStep, IsRun, IsOffer, AreTaken}
 use Rattle.char_marks.specs.Laws.{AnyOrderIsOne}
 use Rattle.char_marks.proofs.Keeping.{in_put, put_old, rising_put, is_less, mark_in, kept_of, marks_rise, name_asym, name_trans}
-use Rattle.char_marks.proofs.Sorted.{rising_once}
+use Rattle.fixed_replay.proofs.CallerLemmas.{sorted_once}
 
 -- ---- generations
 
@@ -240,7 +240,7 @@ pub any_order : AnyOrderIsOne
 any_order s t u os ps rising are offers same first second taken_t taken_u =
     let forth : (o : Offer) → IsIn o os → IsIn o ps = λ o i. (same o).0 i in
     let back : (o : Offer) → IsIn o ps → IsIn o os = λ o i. (same o).1 i in (
-      rising_once is_less less_asym less_trans (marks_of t.kept) (marks_of u.kept)
+      sorted_once is_less less_asym less_trans (marks_of t.kept) (marks_of u.kept)
           (marks_rise t.kept (run_rises os s t first rising))
           (marks_rise u.kept (run_rises ps s u second rising))
           (record {

@@ -1,6 +1,7 @@
 //! The marks that a site keeps: what contracts see of them, the calls that only read, and undos.
 
 ghost use Rattle.std.specs.Prelude.{◌≡◌, ◌+◌, ◌<◌, ◌≤◌, ◌↔◌, IfErr, IfOk, IsNone, None, OnErr, OnOk, length, nat_lt, option_map, slice_get};
+ghost use Rattle.op_name.specs.declared.member.TheConstants.{GENERATIONS};
 ghost use Rattle.context_vector.specs.Contexts.{AreEntries, entry_in};
 ghost use Rattle.char_marks.specs.Marks.{AreRising, mark_named, no_marks, lifted, with_lifted};
 ghost use Rattle.char_marks.specs.Values.{marks_of};
@@ -168,7 +169,7 @@ impl Marks {
 
     // Lifts the generation of the name to the one after.
     fn turn(&mut self, name: &Name, generation: u16) -> Result<u16, MarkBad>
-        requires { generation < 65535 }
+        requires { generation < GENERATIONS }
         ensures answer { IfOk result (λ g. g ≡ generation + 1) }
         ensures memory { IfErr result (λ e. e ≡ MarkBad.Memory) }
         ensures raised { IfOk result (λ g. self.new ≡ with_lifted name.now g self.old) }

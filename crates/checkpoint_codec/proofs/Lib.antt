@@ -1,8 +1,3 @@
-pub mod Steps
-pub mod TwoWays
-pub mod Numbers
-pub mod Lists
-pub mod InsertTexts
 pub mod NameFields
 pub mod OriginalFields
 pub mod UndoneFields

@@ -2,7 +2,7 @@
 use Rattle.std.proofs.Common.{◌≡◌, ℕ, zero, suc, ◌+◌, ◌-◌, ◌<◌, ◌≤◌, List, [], ◌∷◌, ◌++◌, length, Ok, Err, refl, sym, ap, ◌∙◌, append_assoc, append-nil, arith}
 use Rattle.wire_codec.specs.declared.fault.Fault.{Fault}
 use Rattle.wire_codec.specs.Reading.{LeftData, Found, ◌>>=◌, many}
-use Rattle.checkpoint_codec.proofs.Steps.{ok_is, bind_ok}
+use Rattle.wire_codec.proofs.CallerLemmas.{ok_is, bind_ok}
 
 -- what was found, behind elements that were read before
 abbrev pub behind : {A : Type 0} → List A → Found (List A) → Found (List A)

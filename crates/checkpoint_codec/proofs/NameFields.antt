@@ -8,8 +8,7 @@ use Rattle.wire_codec.specs.declared.cause.Cause.TheVariants.{Range}
 use Rattle.wire_codec.specs.declared.version.Version.TheVariants.{Two}
 use Rattle.wire_codec.specs.Spelling.{site_bytes, name_bytes}
 use Rattle.wire_codec.specs.Reading.{LeftData, ◌>>=◌, last_site, site_at, number_at, name_at, place_at}
-use Rattle.checkpoint_codec.proofs.TwoWays.{Reads, bind, mapped, in_words}
-use Rattle.checkpoint_codec.proofs.Numbers.{wide16, wide32, number_reads, bounded_reads}
+use Rattle.wire_codec.proofs.CallerLemmas.{Reads, bind, mapped, in_words, wide16, wide32, number_reads, bounded_reads}
 
 abbrev pub IsNamed : NameData → Type 0
 IsNamed n = IsName n.site n.number

@@ -16,10 +16,7 @@ use Rattle.checkpoint_codec.specs.Spelling.{kind_of, rest_bytes, placed_bytes, o
 use Rattle.checkpoint_codec.specs.Spelled.{IsNextOriginal, AreOriginals}
 use Rattle.checkpoint_codec.specs.Reading.{is_kind, kind_at, start_at, is_next, insert_at, delete_at, rest_at, placed_at, originals_at}
 use Rattle.checkpoint_codec.specs.Code.Views.{place_of}
-use Rattle.checkpoint_codec.proofs.TwoWays.{Reads, bind, mapped, in_words, tested_reads}
-use Rattle.checkpoint_codec.proofs.Numbers.{wide8, wide32, number_reads}
-use Rattle.checkpoint_codec.proofs.Lists.{many_reads}
-use Rattle.checkpoint_codec.proofs.InsertTexts.{insert_kinds, IsLengthOf, one_reads, more_reads, AreCharacters, characters_reads}
+use Rattle.wire_codec.proofs.CallerLemmas.{Reads, bind, mapped, in_words, tested_reads, wide8, wide32, number_reads, many_reads, insert_kinds, IsLengthOf, one_reads, more_reads, AreCharacters, characters_reads}
 use Rattle.checkpoint_codec.proofs.NameFields.{IsNamed, IsPlace, place_reads, name_reads}
 
 -- ---- kinds and names

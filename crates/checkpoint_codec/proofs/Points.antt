@@ -7,7 +7,7 @@ use Rattle.flat_history.specs.Checkpoints.{Placed, Checkpoint, with_all_placed}
 use Rattle.checkpoint_codec.specs.Spelling.{originals_bytes, names_bytes, fields_bytes}
 use Rattle.checkpoint_codec.specs.Spelled.{IsSpelled}
 use Rattle.checkpoint_codec.specs.Reading.{originals_at, names_at, fields_at}
-use Rattle.checkpoint_codec.proofs.TwoWays.{Reads, bind, mapped, in_words}
+use Rattle.wire_codec.proofs.CallerLemmas.{Reads, bind, mapped, in_words}
 use Rattle.checkpoint_codec.proofs.OriginalFields.{AreFewOriginals, originals_reads}
 use Rattle.checkpoint_codec.proofs.UndoneFields.{AreNames, names_reads}
 

@@ -17,9 +17,7 @@ use Rattle.checkpoint_codec.specs.declared.undone.TheConstants.{GROUPS}
 use Rattle.checkpoint_codec.specs.Spelling.{undone_bytes, names_bytes}
 use Rattle.checkpoint_codec.specs.Spelled.{Follow, sum_of}
 use Rattle.checkpoint_codec.specs.Reading.{is_above, is_original, undone_name_at, generation_at, undone_at, no_name, last_after, names_at}
-use Rattle.checkpoint_codec.proofs.TwoWays.{Reads, bind, mapped, in_words, tested_reads}
-use Rattle.checkpoint_codec.proofs.Numbers.{wide16, wide32, number_reads, bounded_reads}
-use Rattle.checkpoint_codec.proofs.Lists.{many_reads}
+use Rattle.wire_codec.proofs.CallerLemmas.{Reads, bind, mapped, in_words, tested_reads, wide16, wide32, number_reads, bounded_reads, many_reads}
 use Rattle.checkpoint_codec.proofs.NameFields.{IsNamed, name_reads}
 
 -- ---- one name

@@ -7,12 +7,8 @@ use Rattle.context_diff.specs.Operations.{IsLetters}
 use Rattle.context_diff.specs.declared.op.TheConstants.{PLACES, UNDO_ENTRIES}
 use Rattle.ttf_form.specs.Families.{IsIn}
 use Rattle.flat_history.specs.Checkpoints.{Placed, inserted, deleted, Checkpoint, with_placed, with_all_placed}
+use Rattle.wire_codec.specs.Reading.{Follow}
 use Rattle.checkpoint_codec.specs.declared.undone.TheConstants.{GROUPS}
-
--- each element fits the state before it
-abbrev pub Follow : {S A : Type 0} → (S → A → Type 0) → (S → A → S) → S → List A → Type 0
-Follow Is next state [] = Unit {0}
-Follow Is next state (x ∷ xs) = Is state x × Follow Is next (next state x) xs
 
 -- the original is in its ranges, and the next one of its site after those of the context
 abbrev pub IsNextOriginal : ContextData → Placed → Type 0

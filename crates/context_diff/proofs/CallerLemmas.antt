@@ -12,10 +12,9 @@ pub use Rattle.context_diff.proofs.GapEnds.{gap_ends, narrow_left, narrow_right}
 pub use Rattle.context_diff.proofs.Generations.{generation_is}
 pub use Rattle.context_diff.proofs.Histories.{context_is, group_facts, original_facts, own_alone, own_earlier, related}
 pub use Rattle.context_diff.proofs.Known.{contains_cases, contains_here, contains_later, contains_none, holder, in_known, known_append, known_in, known_member, known_on, known_push, original_holder}
-pub use Rattle.context_diff.proofs.Listings.{count_at}
 pub use Rattle.context_diff.proofs.Members.{all_is_context, formed_member, members-append, named_original, original_name, raised_by}
 pub use Rattle.context_diff.proofs.Names.{member_itself, member_same}
-pub use Rattle.context_diff.proofs.Next.{have_known, ready_covered}
+pub use Rattle.context_diff.proofs.Next.{have_known, lacks_first, ready_covered}
 pub use Rattle.context_diff.proofs.Order.{base_on, known_end, members_apart, not_later}
 pub use Rattle.context_diff.proofs.Placing.{not_past}
 pub use Rattle.context_diff.proofs.Raising.{has_generation, has_group, has_number, has_original, has_raised}

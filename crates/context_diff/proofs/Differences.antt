@@ -127,7 +127,8 @@ last_may_be_taken_out h from to before m v is closed_from closed_to within e =
                 ((λ i. base_has (sym c.whole i) y (c.is i)) ∙ needs) in
                 false≢true (sym both.1.new ∙ stands)
             | inr late ↦ elim (or_cases (member_eq (member_of c.op) y) (is_known c.after y) late) [
-              | inl same ↦ base_itself h w m (subst (λ (z : Member). base_has h z m ≡ true) (sym (member_same (member_of c.op) y same) ∙ c.is)
+              | inl same ↦ base_itself h w m (subst (λ (z : Member). base_has h z m ≡ true)
+                  (sym (member_same (member_of c.op) y same) ∙ c.is)
                   needs)
               | inr later ↦
                   let listed =

@@ -24,7 +24,8 @@ context_itself c = (context_eq_decides c c).1 refl
 
 -- an operation is equal to itself
 pub op_itself : (o : OpData) → op_eq o o ≡ true
-op_itself (inserting n p text c) = both _ _ (name_itself n) (both _ _ (number_itself p) (both _ _ ((letters_eq_decides text text).1 refl) (context_itself c)))
+op_itself (inserting n p text c) =
+    both _ _ (name_itself n) (both _ _ (number_itself p) (both _ _ ((letters_eq_decides text text).1 refl) (context_itself c)))
 op_itself (deleting n p c) = both _ _ (name_itself n) (both _ _ (number_itself p) (context_itself c))
 op_itself (undoing a t g c) = both _ _ (number_itself a) (both _ _ (name_itself t) (both _ _ (number_itself g) (context_itself c)))
 

@@ -198,7 +198,8 @@ judged_some h valid l known o at v None by = tt
 judged_some h valid l known o at v (Some n) by = judged_by h valid l known o at v n by
 
 -- a context that lacks an operation of the history has all cells but those of that one at most
-cells_less : (h : List OpData) (o : OpData) (c : ContextData) → Contains h o → has c (member_of o) ≡ false → cells_in h c + cells_put o ≤ all_cells h
+cells_less : (h : List OpData) (o : OpData) (c : ContextData) → Contains h o → has c (member_of o) ≡ false
+    → cells_in h c + cells_put o ≤ all_cells h
 cells_less [] o c there lacks = absurd (contains_none o there)
 cells_less (p ∷ ps) o c there lacks =
     elim (contains_cases p ps o there) [

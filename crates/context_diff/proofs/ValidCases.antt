@@ -45,7 +45,8 @@ typed_2_lacks_nothing : LacksNothing (inserting (name 0 1) 0 (97 ∷ []) (after 
 typed_2_lacks_nothing (Original n) e = grind (arith, nat_tests)
 typed_2_lacks_nothing (Group n g) e = grind (arith, nat_tests)
 
-typed_3_lacks_nothing : LacksNothing (inserting (name 0 1) 0 (97 ∷ []) (after []) ∷ inserting (name 0 2) 1 (233 ∷ []) (after ((0, 1) ∷ [])) ∷ [])
+typed_3_lacks_nothing : LacksNothing
+    (inserting (name 0 1) 0 (97 ∷ []) (after []) ∷ inserting (name 0 2) 1 (233 ∷ []) (after ((0, 1) ∷ [])) ∷ [])
     (after ((0, 2) ∷ []))
 typed_3_lacks_nothing (Original n) e = grind (arith, nat_tests)
 typed_3_lacks_nothing (Group n g) e = grind (arith, nat_tests)
@@ -55,12 +56,14 @@ within_0_1_0_2 (Original n) e = grind (arith, nat_tests)
 within_0_1_0_2 (Group n g) e = grind (arith, nat_tests)
 
 word_typed_backwards_reversed_4_lacks_nothing : LacksNothing
-    (inserting (name 3 1) 0 (110 ∷ []) (after []) ∷ inserting (name 1 1) 0 (109 ∷ []) (after []) ∷ inserting (name 2 1) 0 (120 ∷ []) (after []) ∷ [])
+    (inserting (name 3 1) 0 (110 ∷ []) (after []) ∷ inserting (name 1 1) 0 (109 ∷ []) (after []) ∷ inserting (name 2 1) 0 (120 ∷ [])
+    (after []) ∷ [])
     (after ((2, 1) ∷ []))
 word_typed_backwards_reversed_4_lacks_nothing (Original n) e = grind (arith, nat_tests)
 word_typed_backwards_reversed_4_lacks_nothing (Group n g) e = grind (arith, nat_tests)
 
-abc_3_lacks_nothing : LacksNothing (inserting (name 0 1) 0 (97 ∷ []) (after []) ∷ inserting (name 0 2) 1 (98 ∷ []) (after ((0, 1) ∷ [])) ∷ [])
+abc_3_lacks_nothing : LacksNothing
+    (inserting (name 0 1) 0 (97 ∷ []) (after []) ∷ inserting (name 0 2) 1 (98 ∷ []) (after ((0, 1) ∷ [])) ∷ [])
     (after ((0, 2) ∷ []))
 abc_3_lacks_nothing (Original n) e = grind (arith, nat_tests)
 abc_3_lacks_nothing (Group n g) e = grind (arith, nat_tests)
@@ -179,7 +182,8 @@ typed_is_valid = (
         };
         new = refl;
         ready = typed_3_lacks_nothing;
-        closed = λ e. closed_where (inserting (name 0 1) 0 (97 ∷ []) (after []) ∷ inserting (name 0 2) 1 (233 ∷ []) (after ((0, 1) ∷ [])) ∷ [])
+        closed = λ e. closed_where (inserting (name 0 1) 0 (97 ∷ []) (after []) ∷ inserting (name 0 2) 1 (233 ∷ []) (after ((0, 1) ∷ [])) ∷
+            [])
             (after ((0, 2) ∷ [])) (nothing_within (after ((0, 2) ∷ [])), (within_0_1_0_2, tt));
         placed = lit≤ tt;
       },
@@ -265,7 +269,8 @@ word_typed_backwards_reversed_is_valid = (
         };
         new = refl;
         ready = nothing_lacks (inserting (name 3 1) 0 (110 ∷ []) (after []) ∷ inserting (name 1 1) 0 (109 ∷ []) (after []) ∷ []);
-        closed = λ e. closed_where (inserting (name 3 1) 0 (110 ∷ []) (after []) ∷ inserting (name 1 1) 0 (109 ∷ []) (after []) ∷ []) (after [])
+        closed = λ e. closed_where (inserting (name 3 1) 0 (110 ∷ []) (after []) ∷ inserting (name 1 1) 0 (109 ∷ []) (after []) ∷ [])
+            (after [])
             (nothing_within (after []), (nothing_within (after []), tt));
         placed = lit≤ tt;
       },
@@ -286,7 +291,8 @@ word_typed_backwards_reversed_is_valid = (
           };
           new = refl;
           ready = word_typed_backwards_reversed_4_lacks_nothing;
-          closed = λ e. closed_where (inserting (name 3 1) 0 (110 ∷ []) (after []) ∷ inserting (name 1 1) 0 (109 ∷ []) (after []) ∷ inserting (name 2 1) 0
+          closed = λ e. closed_where (inserting (name 3 1) 0 (110 ∷ []) (after []) ∷ inserting (name 1 1) 0 (109 ∷ []) (after []) ∷
+              inserting (name 2 1) 0
               (120 ∷ []) (after []) ∷ []) (after ((2, 1) ∷ []))
               (nothing_within (after ((2, 1) ∷ [])), (nothing_within (after ((2, 1) ∷ [])), (nothing_within (after ((2, 1) ∷ [])), tt)));
           placed = lit≤ tt;
@@ -352,7 +358,8 @@ undone_and_redone_is_valid = (
         };
         new = refl;
         ready = abc_3_lacks_nothing;
-        closed = λ e. closed_where (inserting (name 0 1) 0 (97 ∷ []) (after []) ∷ inserting (name 0 2) 1 (98 ∷ []) (after ((0, 1) ∷ [])) ∷ [])
+        closed = λ e. closed_where (inserting (name 0 1) 0 (97 ∷ []) (after []) ∷ inserting (name 0 2) 1 (98 ∷ []) (after ((0, 1) ∷ [])) ∷
+            [])
             (after ((0, 2) ∷ [])) (nothing_within (after ((0, 2) ∷ [])), (within_0_1_0_2, tt));
         placed = lit≤ tt;
       },
@@ -464,7 +471,8 @@ both_deletes_undone_is_valid = (
         };
         new = refl;
         ready = abc_3_lacks_nothing;
-        closed = λ e. closed_where (inserting (name 0 1) 0 (97 ∷ []) (after []) ∷ inserting (name 0 2) 1 (98 ∷ []) (after ((0, 1) ∷ [])) ∷ [])
+        closed = λ e. closed_where (inserting (name 0 1) 0 (97 ∷ []) (after []) ∷ inserting (name 0 2) 1 (98 ∷ []) (after ((0, 1) ∷ [])) ∷
+            [])
             (after ((0, 2) ∷ [])) (nothing_within (after ((0, 2) ∷ [])), (within_0_1_0_2, tt));
         placed = lit≤ tt;
       },
@@ -592,7 +600,8 @@ pub place_1_of_no_cells_is_out : HasPlace [] (inserting (name 0 1) 1 (97 ∷ [])
 place_1_of_no_cells_is_out in_place = absurd (omega arith)
 
 -- a delete needs a cell at its place
-pub delete_behind_the_last_cell_is_out : HasPlace (inserting (name 0 1) 0 (97 ∷ []) (after []) ∷ []) (deleting (name 0 2) 1 (after ((0, 1) ∷ [])))
+pub delete_behind_the_last_cell_is_out : HasPlace (inserting (name 0 1) 0 (97 ∷ []) (after []) ∷ [])
+    (deleting (name 0 2) 1 (after ((0, 1) ∷ [])))
     → ⊥
 delete_behind_the_last_cell_is_out in_place = absurd (omega arith)
 

@@ -244,7 +244,8 @@ impl Book {
     /// How many cells the context of the last operation has, if that is an insert or a delete and none was taken out since it came.
     /// None says nothing.
     pub fn last_cells(&self) -> Option<u32>
-        ensures { IfSome result (λ n. (o : OpData) (before : List Member) → Contains self.now.ops o → members_in self.now.ops ≡ before ++ member_of o ∷ [] → n ≡ cells_in self.now.ops (context_of o)) }
+        ensures { IfSome result (λ n. (o : OpData) (before : List Member) → Contains self.now.ops o
+            → members_in self.now.ops ≡ before ++ member_of o ∷ [] → n ≡ cells_in self.now.ops (context_of o)) }
     {
         self.known();
         let known = self.last?;

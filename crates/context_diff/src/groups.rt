@@ -15,7 +15,8 @@ use op_name::Member;
 /// Takes in the last member of a book, which stands at this place, if it is an undo group. There is room for it.
 pub(crate) fn note(groups: &mut IndexMap<Member, u32>, m: &Member, place: u32)
     requires room { 0 < spare groups.old }
-    ensures { (h : List OpData) (o : OpData) → member_of o ≡ m.now → place ≡ length h → AreGroups h groups.old.entries → AreGroups (h ++ o ∷ []) groups.new.entries }
+    ensures { (h : List OpData) (o : OpData) → member_of o ≡ m.now → place ≡ length h → AreGroups h groups.old.entries
+        → AreGroups (h ++ o ∷ []) groups.new.entries }
 {
     match m {
         Member::Original(_) => {}
@@ -25,7 +26,8 @@ pub(crate) fn note(groups: &mut IndexMap<Member, u32>, m: &Member, place: u32)
 
 /// Forgets the last member of a book, if it is an undo group.
 pub(crate) fn forget(groups: &mut IndexMap<Member, u32>, m: &Member)
-    ensures { (h : List OpData) (o : OpData) → member_of o ≡ m.now → is_known h m.now ≡ false → AreGroups (h ++ o ∷ []) groups.old.entries → AreGroups h groups.new.entries }
+    ensures { (h : List OpData) (o : OpData) → member_of o ≡ m.now → is_known h m.now ≡ false → AreGroups (h ++ o ∷ []) groups.old.entries
+        → AreGroups h groups.new.entries }
 {
     match m {
         Member::Original(_) => {}
@@ -44,7 +46,8 @@ pub(crate) fn place_of(groups: &IndexMap<Member, u32>, m: &Member) -> Option<u32
 #[tactic(auto, using(crate::proofs::Derived::changed_by_member))]
 fn put(groups: &mut IndexMap<Member, u32>, m: Member, place: u32)
     requires room { 0 < spare groups.old }
-    ensures { (q : Member) → lookup (member_eq q) groups.new.entries ≡ (if member_eq m q then Some place else lookup (member_eq q) groups.old.entries) }
+    ensures { (q : Member)
+        → lookup (member_eq q) groups.new.entries ≡ (if member_eq m q then Some place else lookup (member_eq q) groups.old.entries) }
 {
     match groups.insert(m, place) {
         Ok(_) => {}
@@ -55,7 +58,8 @@ fn put(groups: &mut IndexMap<Member, u32>, m: Member, place: u32)
 // Takes the member out.
 #[tactic(auto, using(crate::proofs::Derived::changed_by_member))]
 fn take(groups: &mut IndexMap<Member, u32>, m: &Member)
-    ensures { (q : Member) → lookup (member_eq q) groups.new.entries ≡ (if member_eq m.now q then None else lookup (member_eq q) groups.old.entries) }
+    ensures { (q : Member)
+        → lookup (member_eq q) groups.new.entries ≡ (if member_eq m.now q then None else lookup (member_eq q) groups.old.entries) }
 {
     groups.swap_remove(m);
 }

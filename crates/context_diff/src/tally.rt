@@ -219,7 +219,9 @@ impl Tallies {
     fn push_at(&mut self, site: u16, cells: u32, place: u32)
         requires room { 0 < count_in (spares_of self.old) site }
         requires short { total (counts_of self.old site) + cells < 4294967296 }
-        ensures counts { (s : ℕ) → counts_of self.new s ≡ (if site == s then counts_of self.old s ++ (total (counts_of self.old s) + cells) ∷ [] else counts_of self.old s) }
+        ensures counts { (s : ℕ)
+            → counts_of self.new s
+            ≡ (if site == s then counts_of self.old s ++ (total (counts_of self.old s) + cells) ∷ [] else counts_of self.old s) }
         ensures places { (s : ℕ) → places_of self.new s ≡ (if site == s then places_of self.old s ++ place ∷ [] else places_of self.old s) }
     {
         match self.find(site) {
@@ -241,8 +243,12 @@ impl Tallies {
 
     // Forgets the last original of this site.
     fn pop_at(&mut self, site: u16)
-        ensures counts { (s : ℕ) → counts_of self.new s ≡ (if site == s then take (length (counts_of self.old s) - 1) (counts_of self.old s) else counts_of self.old s) }
-        ensures places { (s : ℕ) → places_of self.new s ≡ (if site == s then take (length (places_of self.old s) - 1) (places_of self.old s) else places_of self.old s) }
+        ensures counts { (s : ℕ)
+            → counts_of self.new s
+            ≡ (if site == s then take (length (counts_of self.old s) - 1) (counts_of self.old s) else counts_of self.old s) }
+        ensures places { (s : ℕ)
+            → places_of self.new s
+            ≡ (if site == s then take (length (places_of self.old s) - 1) (places_of self.old s) else places_of self.old s) }
     {
         if let Ok(at) = self.find(site) {
             self.sites[at].pop();

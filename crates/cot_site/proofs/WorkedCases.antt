@@ -35,10 +35,12 @@ known_insert_is_a_repeat = refl
 pub other_content_of_a_known_name_is_forged : verdict_of (a ∷ []) [] (inserting (name 0 1) 0 (98 ∷ []) (after [])) ≡ Forged (name 0 1)
 other_content_of_a_known_name_is_forged = refl
 
-pub other_content_of_a_waiting_name_is_forged : verdict_of [] (b ∷ []) (inserting (name 0 2) 0 (98 ∷ []) (after ((0, 1) ∷ []))) ≡ Forged (name 0 2)
+pub other_content_of_a_waiting_name_is_forged : verdict_of [] (b ∷ []) (inserting (name 0 2) 0 (98 ∷ []) (after ((0, 1) ∷ [])))
+    ≡ Forged (name 0 2)
 other_content_of_a_waiting_name_is_forged = refl
 
-pub context_without_its_causes_is_not_closed : verdict_of two_writers [] (inserting (name 2 1) 0 (99 ∷ []) (after ((1, 1) ∷ []))) ≡ NotClosed 1
+pub context_without_its_causes_is_not_closed : verdict_of two_writers [] (inserting (name 2 1) 0 (99 ∷ []) (after ((1, 1) ∷ [])))
+    ≡ NotClosed 1
 context_without_its_causes_is_not_closed = refl
 
 pub place_behind_the_cells_is_out : verdict_of [] [] (inserting (name 0 1) 1 (97 ∷ []) (after [])) ≡ PlaceOut 1 0

@@ -51,7 +51,13 @@ impl Model for Site {
 
     ghost Value = { SiteData };
 
-    ghost view = { λ s. record { number = s.number; history = s.replica.history; waiting = s.pool; forms = s.replica.forms; entries = s.replica.entries } };
+    ghost view = { λ s. record {
+      number = s.number;
+      history = s.replica.history;
+      waiting = s.pool;
+      forms = s.replica.forms;
+      entries = s.replica.entries;
+    } };
 
     ghost invariant = { λ s. (s.number < SITES) × AllFormed s.pool };
 }

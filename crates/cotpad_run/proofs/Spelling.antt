@@ -361,7 +361,8 @@ version_from parts c h =
     let a = alone_some Version c parts h in
     subst (λ x. (codes "version" ∷ parts ≡ command_words x) × IsInRange x) a.1 (ap (λ xs. codes "version" ∷ xs) a.0, tt)
 
-dashed_version_from : (parts : List (List ℕ)) (c : CommandData) → alone_in DashedVersion parts ≡ Some c → IsCommand (codes "--version" ∷ parts) c
+dashed_version_from : (parts : List (List ℕ)) (c : CommandData) → alone_in DashedVersion parts ≡ Some c
+    → IsCommand (codes "--version" ∷ parts) c
 unfolding IsCommand
 dashed_version_from parts c h =
     let a = alone_some DashedVersion c parts h in
@@ -391,7 +392,8 @@ command_from ws c h =
     (row_or IsCommand p.0.0 (codes "help") parts c (alone_in Help parts) _ (help_from parts c)
     (row_or IsCommand p.0.0 (codes "--help") parts c (alone_in DashedHelp parts) _ (dashed_help_from parts c)
     (row_or IsCommand p.0.0 (codes "version") parts c (alone_in Version parts) _ (version_from parts c)
-    (row_or IsCommand p.0.0 (codes "--version") parts c (alone_in DashedVersion parts) None (dashed_version_from parts c) (λ never. cc)))))))))))))))))))
+    (row_or IsCommand p.0.0 (codes "--version") parts c (alone_in DashedVersion parts) None (dashed_version_from parts c)
+    (λ never. cc)))))))))))))))))))
     p.2)
 
 command_to : (c : CommandData) → IsInRange c → command_in (command_words c) ≡ Some c

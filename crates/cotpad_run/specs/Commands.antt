@@ -8,7 +8,8 @@ use Rattle.cotpad_run.specs.declared.command.Command.{Command}
 use Rattle.cotpad_run.specs.declared.command.Command.TheVariants as command
 
 -- a script is replayed; the text of a log is shown; a log is loaded as a site and edited there, or written anew in version 2; the
--- operations of a log are listed, or hashed with its text; a session is generated; the form of an operation of a log is derived step by step; a place of the text of a log is told as a line and a column, or these as the place;
+-- operations of a log are listed, or hashed with its text; a session is generated; the form of an operation of a log is derived step by
+-- step; a place of the text of a log is told as a line and a column, or these as the place;
 -- the text of a log at a set of members is shown, or its text after each operation;
 -- a site that a log gives exchanges with a peer that comes to a port, or that waits at one; the two sites of a generated session
 -- exchange with each other; the commands are listed, or the version is told, each for one of two words

@@ -13,7 +13,8 @@ help_text =
     ++ (codes "cotpad edit SITE undo NAME         reads a log, undoes an insert or delete, whoever made it, and writes the new log\n"
     ++ (codes "cotpad edit SITE redo NAME         the same with a redo, whoever undid it\n"
     ++ (codes "cotpad upgrade                     reads a log of version 1 or 2, and writes it in version 2\n"
-    ++ (codes "cotpad history                     reads a log, and writes a line for each operation: its name, what it did, if it is in force\n"
+    ++ (codes
+    "cotpad history                     reads a log, and writes a line for each operation: its name, what it did, if it is in force\n"
     ++ (codes "cotpad digest                      reads a log, and writes hashes of its operations and its text, to compare copies by\n"
     ++ (codes "cotpad explain MEMBER              reads a log, and writes how the form of an operation is derived\n"
     ++ (codes "cotpad where V                     reads a log, and writes the line and column after V shown characters\n"

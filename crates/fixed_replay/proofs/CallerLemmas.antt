@@ -9,6 +9,7 @@ pub use Rattle.fixed_replay.proofs.Growth.{base_form_on, forms_grow, forms_on, h
 pub use Rattle.fixed_replay.proofs.Marks.{on_behind, on_stands, same_cell}
 pub use Rattle.fixed_replay.proofs.Narrowing.{gap_of_whole}
 pub use Rattle.fixed_replay.proofs.SameText.{same_replay, same_text}
+pub use Rattle.fixed_replay.proofs.Sorting.{sorted_once}
 pub use Rattle.fixed_replay.proofs.Splits.{Split, split}
 pub use Rattle.fixed_replay.proofs.ValidFamilies.{valid_family, valid_own_names}
 pub use Rattle.fixed_replay.proofs.ValidOriginals.{told_apart}

@@ -96,7 +96,8 @@ character_kept : (h : List OpData) (o : OpData) (c : Cell) → NewNames (c ∷ [
 character_kept [] (inserting n p text k) c l = rw (other_name c n (cell_count text) (some_cells text) l) refl
 character_kept [] (deleting n p k) c l = refl
 character_kept [] (undoing a t g k) c l = refl
-character_kept (inserting m q x d ∷ os) o c l = ap (λ (r : ℕ). if name_eq m c.0 then slice_index_or x c.1 0 else r) (character_kept os o c l)
+character_kept (inserting m q x d ∷ os) o c l =
+    ap (λ (r : ℕ). if name_eq m c.0 then slice_index_or x c.1 0 else r) (character_kept os o c l)
 character_kept (deleting m q d ∷ os) o c l = character_kept os o c l
 character_kept (undoing a t g d ∷ os) o c l = character_kept os o c l
 

@@ -153,7 +153,14 @@ pub record IsInserted (b : Family Form) (rank : NameData → ℕ) (xs : List Mem
   pub ins : Ins
   pub there : IsIn member xs
   pub form : b.form member ≡ Insert ins
-  pub is : i ≡ record { name = ins.name; place = ins.place; len = ins_extent ins; rank = rank (target_of member); sees = λ n. b.context member (Original n) }
+  pub is : i ≡ record {
+    name = ins.name;
+    place = ins.place;
+    len = ins_extent ins;
+    rank = rank (target_of member);
+    sees =
+        λ n. b.context member (Original n);
+  }
 
 inserted_first : (b : Family Form) (rank : NameData → ℕ) (x : Member) (xs : List Member) (i : Insertion) (f : Form) → b.form x ≡ f
     → (IsIn i (insertions_of b rank xs) → IsInserted b rank xs i)
@@ -214,7 +221,14 @@ module _ (b : Family Form) (known : IsFamily form_inclusion b) (own_names : HasO
   rising_first x xs (Insert a) e l r ih = (
     λ z i. let q =
         in-insertions_of b rank xs z i in
-        earlier_from (record { name = a.name; place = a.place; len = ins_extent a; rank = rank (target_of x); sees = λ n. b.context x (Original n) }) z x
+        earlier_from (record {
+          name = a.name;
+          place = a.place;
+          len = ins_extent a;
+          rank = rank (target_of x);
+          sees =
+              λ n. b.context x (Original n);
+        }) z x
         q.member a q.ins (l x (inl refl)) (l q.member (inr q.there)) e q.form refl q.is (r.0 q.member q.there),
     ih,
   )

@@ -121,7 +121,8 @@ module _ (b : Family Form) (known : IsFamily form_inclusion b) (own_names : HasO
   one_op o p i j e = one_operation h apart_members o p i j e
 
   -- an insert's name is no delete's
-  not_delete : (n m : NameData) (p : ℕ) (text : List ℕ) (q : ℕ) (c k : ContextData) → IsIn (inserting n p text c) h → IsIn (deleting m q k) h
+  not_delete : (n m : NameData) (p : ℕ) (text : List ℕ) (q : ℕ) (c k : ContextData) → IsIn (inserting n p text c) h
+      → IsIn (deleting m q k) h
       → name_eq m n ≡ false
   not_delete n m p text q c k i j =
       false_from_ne_true (name_eq m n)
@@ -178,7 +179,8 @@ module _ (b : Family Form) (known : IsFamily form_inclusion b) (own_names : HasO
         ∙ (ap (λ (v : ℕ). is_on (By t 0) v mine c) o.place ∙ sym (cover_on q (By t 0) (b.form (Original t)) mine mine c o refl))
 
     -- the mark of a group of an insert is on the cells of the insert
-    insert_group_hits : (t : NameData) (g p : ℕ) (text : List ℕ) (k : ContextData) (c : Cell) → IsIn (inserting t p text k) h → IsIn (Group t g) b.members
+    insert_group_hits : (t : NameData) (g p : ℕ) (text : List ℕ) (k : ContextData) (c : Cell) → IsIn (inserting t p text k) h
+        → IsIn (Group t g) b.members
         → bears b S (Group t g) c ≡ name_eq t c.0
     insert_group_hits t g p text k c j i =
         let y : Member = Original t in
@@ -224,7 +226,8 @@ module _ (b : Family Form) (known : IsFamily form_inclusion b) (own_names : HasO
 
     -- the original that a group is of is an insert or a delete
     target_is : (t : NameData) (g : ℕ) → IsIn (Group t g) b.members
-        → ((p : ℕ) × (text : List ℕ) × (k : ContextData) × IsIn (inserting t p text k) h) ⊎ ((p : ℕ) × (k : ContextData) × IsIn (deleting t p k) h)
+        → ((p : ℕ) × (text : List ℕ) × (k : ContextData) × IsIn (inserting t p text k) h)
+        ⊎ ((p : ℕ) × (k : ContextData) × IsIn (deleting t p k) h)
     target_is t g i =
         let there = known.causal.listed (Group t g) (Original t) i (groups.target t g i) in
         let r = listed_member (Original t) h (subst (λ (ms : List Member). IsIn (Original t) ms) family.members there) in
@@ -233,7 +236,8 @@ module _ (b : Family Form) (known : IsFamily form_inclusion b) (own_names : HasO
         of_kind : (o : OpData) → IsIn o h → member_of o ≡ Original t
             → ((p : ℕ) × (text : List ℕ) × (k : ContextData) × IsIn (inserting t p text k) h)
             ⊎ ((p : ℕ) × (k : ContextData) × IsIn (deleting t p k) h)
-        of_kind (inserting n p text k) j e = let s : n ≡ t = (cc) in inl (p, text, k, subst (λ (v : NameData). IsIn (inserting v p text k) h) s j)
+        of_kind (inserting n p text k) j e =
+            let s : n ≡ t = (cc) in inl (p, text, k, subst (λ (v : NameData). IsIn (inserting v p text k) h) s j)
         of_kind (deleting n p k) j e = let s : n ≡ t = (cc) in inr (p, k, subst (λ (v : NameData). IsIn (deleting v p k) h) s j)
         of_kind (undoing q n f k) j e = absurd (cc)
 

@@ -80,7 +80,8 @@ pub insertions_comparable : (h : List OpData) → AreToldApart h → AreComparab
 insertions_comparable [] t = tt
 insertions_comparable (inserting n p text c ∷ os) t = (first, insertions_comparable os t.1)
   where
-    first : (z : Insertion) → IsIn z (insertions_in os) → (is_earlier (insertion n p text c) z ≡ true) ⊎ (is_earlier z (insertion n p text c) ≡ true)
+    first : (z : Insertion) → IsIn z (insertions_in os)
+        → (is_earlier (insertion n p text c) z ≡ true) ⊎ (is_earlier z (insertion n p text c) ≡ true)
     first z i = let r = in-insertions z os i in
         let told = told_from (inserting n p text c) os t.0 (inserting r.name r.place r.text r.context) r.there in
         subst (λ (w : Insertion). (is_earlier (insertion n p text c) w ≡ true) ⊎ (is_earlier w (insertion n p text c) ≡ true)) (sym r.is)

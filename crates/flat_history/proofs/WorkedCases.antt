@@ -63,7 +63,8 @@ at_once =
     ∷ undoing 2 (name 1 1) 2 (after_undos ((0, 1) ∷ (1, 1) ∷ (2, 1) ∷ []) ((name 1 1, 1) ∷ []))
     ∷ []
 
--- the forms of `a`, of `b` with the `a`, of `c` with the `b` and its undo, and of the delete with the `b`, which is placed with the `c` first
+-- the forms of `a`, of `b` with the `a`, of `c` with the `b` and its undo, and of the delete with the `b`, which is placed with the `c`
+-- first
 abbrev b_with_a : Form
 b_with_a = form_over (form_of b_is_written) (form_of a_is_written)
 
@@ -80,7 +81,8 @@ at_once_forms =
     ∷ undo_of_b
     ∷ c_with_b
     ∷ form_over (form_of c_is_deleted) (form_over b_with_a (form_of c_is_written))
-    ∷ form_over (form_over (group_form (form_of b_is_written) (name 1 1) 2) (form_over (form_of a_is_written) (form_of b_is_written))) c_with_b
+    ∷ form_over (form_over (group_form (form_of b_is_written) (name 1 1) 2) (form_over (form_of a_is_written) (form_of b_is_written)))
+    c_with_b
     ∷ []
 
 -- the `b` stands behind the `a`, since its site is the greater one, and the `c` behind both: so it is told, and so is its delete

@@ -50,7 +50,8 @@ capped p q n =
 -- many forms
 
 -- what stands where a mark's cell stands goes with it
-along_mark : (c : Cover) (fs : List Form) → fold place_after (min c.place CELLS) fs ≡ min (place_of (form_after form_over (Covered c) fs)) CELLS
+along_mark : (c : Cover) (fs : List Form)
+    → fold place_after (min c.place CELLS) fs ≡ min (place_of (form_after form_over (Covered c) fs)) CELLS
 along_mark c [] = refl
 along_mark c (Insert a ∷ fs) =
     ap (λ (n : ℕ). fold place_after n fs) (capped c.place a.place (ins_extent a))

@@ -33,9 +33,12 @@ pub fn executed_group(
     passages: &mut Passages,
 ) -> Form
     requires noted { AreNoted passages.old executed.now }
-    requires last { (before : List Member) × ((members_in book.now.ops ≡ before ++ Group target.now generation ∷ []) × AreFormsFrom form_over (family_in book.now.ops (base_form book.now.ops)) none before executed.now) }
+    requires last { (before : List Member)
+        × ((members_in book.now.ops ≡ before ++ Group target.now generation ∷ [])
+        × AreFormsFrom form_over (family_in book.now.ops (base_form book.now.ops)) none before executed.now) }
     ensures noted { AreNoted passages.new executed.now }
-    ensures form { (before : List Member) → members_in book.now.ops ≡ before ++ Group target.now generation ∷ [] → Derived form_over (family_in book.now.ops (base_form book.now.ops)) (Group target.now generation) (plus_all none before) result }
+    ensures form { (before : List Member) → members_in book.now.ops ≡ before ++ Group target.now generation ∷ []
+        → Derived form_over (family_in book.now.ops (base_form book.now.ops)) (Group target.now generation) (plus_all none before) result }
 {
     book.known();
     let place = leader_place(book, target, generation);
@@ -48,7 +51,8 @@ pub fn executed_group(
 fn mark_after(mark: Mark, executed: &[Form], place: usize, passages: &Passages) -> Form
     requires noted { AreNoted passages.now executed.now }
     requires place { place < length executed.now }
-    requires fits { (f : Form) → AfterFits form_over place_of extent_of (following mark (get_or executed.now place f)) (drop (place + 1) executed.now) }
+    requires fits { (f : Form)
+        → AfterFits form_over place_of extent_of (following mark (get_or executed.now place f)) (drop (place + 1) executed.now) }
     ensures { (f : Form) → result ≡ form_after form_over (following mark (get_or executed.now place f)) (drop (place + 1) executed.now) }
 {
     let form = followed(mark, &executed[place]);

@@ -32,7 +32,9 @@ pub fn executed_original(
     rows: &mut Rows<Form>,
 ) -> Result<(Form, Option<Form>), Memory>
     requires { (before : List Member) × IsExecutedBefore book.now.ops (Original name.now) before executed.now rows.old }
-    ensures form { IfOk result (λ made. (before : List Member) → IsExecutedBefore book.now.ops (Original name.now) before executed.now rows.old → IsOnlyFormAt form_over (family_in book.now.ops (base_form book.now.ops)) (Original name.now) (plus_all none before) made.0) }
+    ensures form { IfOk result (λ made. (before : List Member)
+        → IsExecutedBefore book.now.ops (Original name.now) before executed.now rows.old
+        → IsOnlyFormAt form_over (family_in book.now.ops (base_form book.now.ops)) (Original name.now) (plus_all none before) made.0) }
     ensures first { IfOk result (λ made. IfSome made.1 (IsFormWith form_over insert_of (family_in book.now.ops (base_form book.now.ops)) (Original name.now))) }
     ensures rows { OnOk result (AreRows form_over IsInertForm (family_in book.now.ops (base_form book.now.ops)) (members_in book.now.ops) rows.new.rows) }
     ensures bound { OnOk result (forms_in rows.new.rows ≤ ENTRIES) }

@@ -387,10 +387,17 @@ pub fn executed_form<F: Named + Copy, B: Bases<F>>(
     requires last { IsLastContext book.now.ops context.now.set }
     requires firsts { IfSome rows.old.firsts (AreFirstMembers book.now.ops) }
     requires short { length executed.now < 4294967296 }
-    requires ready { (before : List Member) × IsLast F.over F.IsInert (family_of ⟦<B as Bases<F>>⟧ bases.now) (Original name.now) before executed.now rows.old.rows }
-    ensures form { IfOk result (λ made. (before : List Member) → IsLast F.over F.IsInert (family_of ⟦<B as Bases<F>>⟧ bases.now) (Original name.now) before executed.now rows.old.rows → IsOnlyFormAt F.over (family_of ⟦<B as Bases<F>>⟧ bases.now) (Original name.now) (plus_all none before) made.0) }
-    ensures first { IfOk result (λ made. (before : List Member) → IsLast F.over F.IsInert (family_of ⟦<B as Bases<F>>⟧ bases.now) (Original name.now) before executed.now rows.old.rows → IfSome made.1 (IsFormWith F.over F.named (family_of ⟦<B as Bases<F>>⟧ bases.now) (Original name.now))) }
-    ensures rows { OnOk result ((before : List Member) → IsLast F.over F.IsInert (family_of ⟦<B as Bases<F>>⟧ bases.now) (Original name.now) before executed.now rows.old.rows → AreRows F.over F.IsInert (family_of ⟦<B as Bases<F>>⟧ bases.now) (before ++ Original name.now ∷ []) rows.new.rows) }
+    requires ready { (before : List Member)
+        × IsLast F.over F.IsInert (family_of ⟦<B as Bases<F>>⟧ bases.now) (Original name.now) before executed.now rows.old.rows }
+    ensures form { IfOk result (λ made. (before : List Member)
+        → IsLast F.over F.IsInert (family_of ⟦<B as Bases<F>>⟧ bases.now) (Original name.now) before executed.now rows.old.rows
+        → IsOnlyFormAt F.over (family_of ⟦<B as Bases<F>>⟧ bases.now) (Original name.now) (plus_all none before) made.0) }
+    ensures first { IfOk result (λ made. (before : List Member)
+        → IsLast F.over F.IsInert (family_of ⟦<B as Bases<F>>⟧ bases.now) (Original name.now) before executed.now rows.old.rows
+        → IfSome made.1 (IsFormWith F.over F.named (family_of ⟦<B as Bases<F>>⟧ bases.now) (Original name.now))) }
+    ensures rows { OnOk result ((before : List Member)
+        → IsLast F.over F.IsInert (family_of ⟦<B as Bases<F>>⟧ bases.now) (Original name.now) before executed.now rows.old.rows
+        → AreRows F.over F.IsInert (family_of ⟦<B as Bases<F>>⟧ bases.now) (before ++ Original name.now ∷ []) rows.new.rows) }
     ensures bound { OnOk result (forms_in rows.new.rows ≤ ENTRIES) }
     ensures firsts { IfSome rows.new.firsts (AreFirstMembers book.now.ops) }
     ensures lost { OnErr result ((k : AuthorRow F) → Contains rows.new.rows k → Contains rows.old.rows k) }

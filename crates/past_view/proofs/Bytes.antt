@@ -51,5 +51,13 @@ put_turned xs es text slice turned at behind n le size is same count by =
     by ∙ (λ i. front i ++ ((ap (drop behind) rest ∙ drop_at r es behind long) i ++ (ap (take behind) rest ∙ take_at r es behind long) i)) in
     let all : length turned ≡ n =
     ap length put
-    ∙ omega (arith, length-append (take at xs) (es ++ r), length-append es r, length-take-le at xs le, length-append xs es, ap length is, long) in
+    ∙ omega (
+      arith,
+      length-append (take at xs) (es ++ r),
+      length-append es r,
+      length-take-le at xs le,
+      length-append xs es,
+      ap length is,
+      long,
+    ) in
     take_at turned (drop (length turned) text) n all ∙ put

@@ -1,7 +1,6 @@
 pub mod Parts
 pub mod PartText
 pub mod PastText
-pub mod Refusals
 pub mod Addresses
 pub mod Answered
 pub mod CallerLemmas

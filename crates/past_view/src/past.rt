@@ -131,7 +131,8 @@ fn push_past(cells: &Cells, at: &Vector, out: &mut Vec<u8>) -> Result<(), Memory
 fn push_chunk(cells: &Cells, chunk: u32, at: &Vector, out: &mut Vec<u8>) -> Result<(), Memory>
     requires there { chunk < length cells.now.chunks }
     requires beside { length (slice_index_or cells.now.texts chunk []) ≡ length (slice_index_or cells.now.chunks chunk []) }
-    ensures ok { OnOk result (out.new.items ≡ out.old.items ++ past_text at.now.set (slice_index_or cells.now.chunks chunk []) (slice_index_or cells.now.texts chunk [])) }
+    ensures ok { OnOk result (out.new.items
+        ≡ out.old.items ++ past_text at.now.set (slice_index_or cells.now.chunks chunk []) (slice_index_or cells.now.texts chunk [])) }
     ensures err { OnErr result (take (vec_len out.old) out.new.items ≡ out.old.items) }
 {
     let text = cells.chunk_text(chunk);

@@ -55,7 +55,8 @@ fn forged_parts(name: Name, out: &mut Vec<u8>) -> Result<(), Memory>
 
 // `waits MEMBER MISSING`
 fn waits_parts(member: Member, missing: Member, out: &mut Vec<u8>) -> Result<(), Memory>
-    ensures ok { OnOk result (out.new.items ≡ out.old.items ++ (codes "waits " ++ (member_text member ++ (codes " " ++ member_text missing)))) }
+    ensures ok { OnOk result (out.new.items
+        ≡ out.old.items ++ (codes "waits " ++ (member_text member ++ (codes " " ++ member_text missing)))) }
     ensures err { OnErr result (take (length out.old.items) out.new.items ≡ out.old.items) }
 {
     put::text(out, b"waits ")?;
@@ -66,7 +67,8 @@ fn waits_parts(member: Member, missing: Member, out: &mut Vec<u8>) -> Result<(),
 
 // `notclosed MEMBER SITE`
 fn not_closed_parts(member: Member, site: u16, out: &mut Vec<u8>) -> Result<(), Memory>
-    ensures ok { OnOk result (out.new.items ≡ out.old.items ++ (codes "notclosed " ++ (member_text member ++ (codes " " ++ decimal site)))) }
+    ensures ok { OnOk result (out.new.items
+        ≡ out.old.items ++ (codes "notclosed " ++ (member_text member ++ (codes " " ++ decimal site)))) }
     ensures err { OnErr result (take (length out.old.items) out.new.items ≡ out.old.items) }
 {
     put::text(out, b"notclosed ")?;
@@ -76,7 +78,8 @@ fn not_closed_parts(member: Member, site: u16, out: &mut Vec<u8>) -> Result<(), 
 
 // `placeout MEMBER PLACE CELLS`
 fn place_out_parts(member: Member, place: u32, cells: u32, out: &mut Vec<u8>) -> Result<(), Memory>
-    ensures ok { OnOk result (out.new.items ≡ out.old.items ++ (codes "placeout " ++ (member_text member ++ (codes " " ++ (decimal place ++ (codes " " ++ decimal cells)))))) }
+    ensures ok { OnOk result (out.new.items
+        ≡ out.old.items ++ (codes "placeout " ++ (member_text member ++ (codes " " ++ (decimal place ++ (codes " " ++ decimal cells)))))) }
     ensures err { OnErr result (take (length out.old.items) out.new.items ≡ out.old.items) }
 {
     put::text(out, b"placeout ")?;

@@ -74,7 +74,8 @@ module _ (h : List OpData) (v : IsValid h) (n : ℕ) where
   pub entry_most : (t : NameData) → entry_of at t ≤ entry_of (context_of_all h) t
   entry_most t =
       let whole = generation-append k (drop n h) t in
-      let all = subst (λ (x : List OpData). entry_of (context_of_all x) t ≡ entry_of (context_of_all h) t) (sym (take-append-drop n h)) refl in
+      let all =
+      subst (λ (x : List OpData). entry_of (context_of_all x) t ≡ entry_of (context_of_all h) t) (sym (take-append-drop n h)) refl in
       let first = generation_is k parts.0 t in
       let both = generation_is (k ++ drop n h) (subst IsValid (sym (take-append-drop n h)) v) t in
       omega (arith, whole, all, first, both)

@@ -42,7 +42,8 @@ line_from cs line w first = record {
   after = λ k e. by k e (cases_Bool (is_newline (get_or cs k 0)));
 }
   where
-    by : (k : ℕ) → k + 1 ≡ w → (is_newline (get_or cs k 0) ≡ true) ⊎ (is_newline (get_or cs k 0) ≡ false) → is_newline (get_or cs k 0) ≡ true
+    by : (k : ℕ) → k + 1 ≡ w → (is_newline (get_or cs k 0) ≡ true) ⊎ (is_newline (get_or cs k 0) ≡ false)
+        → is_newline (get_or cs k 0) ≡ true
     by k e (inl feed) = feed
     by k e (inr other) =
         let within = (offset_back Lines cs w line first.has).0 in
@@ -51,7 +52,8 @@ line_from cs line w first = record {
         absurd (first.first k (omega (arith, e)) (offset_there cs k line (omega (arith, e, within)) on))
 
 -- and a place on it has its column from there
-pub address_there : (cs : List ℕ) (line w v : ℕ) → IsFirstPlace Lines cs line w → offset_at Lines cs v ≡ Some line → IsAddress cs line (v - w) v
+pub address_there : (cs : List ℕ) (line w v : ℕ) → IsFirstPlace Lines cs line w → offset_at Lines cs v ≡ Some line
+    → IsAddress cs line (v - w) v
 address_there cs line w v first has =
     let le = first_le cs v w line first has in
     let at : w + (v - w) ≡ v = omega (arith, le) in

@@ -22,7 +22,8 @@ module _ (m : Measure) (front middle behind : List ℕ) where
   taken_within k le =
       take-append-add front (middle ++ behind) k ∙ ap (λ (l : List ℕ). front ++ l) (take-append-le k middle behind le)
 
-  pub weight_within : (k : ℕ) → k ≤ length middle → weight_of m (take (length front + k) whole) ≡ weight_of m front + weight_of m (take k middle)
+  pub weight_within : (k : ℕ) → k ≤ length middle
+      → weight_of m (take (length front + k) whole) ≡ weight_of m front + weight_of m (take k middle)
   weight_within k le = ap (weight_of m) (taken_within k le) ∙ weight-append m front (take k middle)
 
   weight_end : weight_of m (take (length front + length middle) whole) ≡ weight_of m front + weight_of m middle

@@ -64,7 +64,8 @@ weight-append m (x ∷ xs) ys = omega (arith, weight-append m xs ys)
 -- line feeds are counted
 pub weight_lines : (cs : List ℕ) → weight_of Lines cs ≡ count_by is_newline cs
 weight_lines [] = refl
-weight_lines (c ∷ cs) = ap (λ n. (if c == 10 then 1 else 0) + n) (weight_lines cs) ∙ sym (sum_by-cons (λ (x : ℕ). cond (is_newline x) 1 0) c cs)
+weight_lines (c ∷ cs) =
+    ap (λ n. (if c == 10 then 1 else 0) + n) (weight_lines cs) ∙ sym (sum_by-cons (λ (x : ℕ). cond (is_newline x) 1 0) c cs)
 
 -- those in front of a place weigh no less than those in front of an earlier one
 pub weight_up : (m : Measure) (cs : List ℕ) (u v : ℕ) → u ≤ v → weight_of m (take u cs) ≤ weight_of m (take v cs)

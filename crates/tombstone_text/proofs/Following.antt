@@ -17,7 +17,14 @@ not_one n e = grind (arith, nat_tests)
 -- the cell with another number, and with another offset
 abbrev pub numbered : CellData → ℕ → CellData
 numbered c n =
-    record { name = record { site = c.name.site; number = n }; offset = c.offset; of = c.of; generation = c.generation; deleters = c.deleters }
+    record {
+      name = record { site = c.name.site; number = n };
+      offset = c.offset;
+      of = c.of;
+      generation = c.generation;
+      deleters =
+          c.deleters;
+    }
 
 abbrev pub placed : CellData → ℕ → CellData
 placed c o = record { name = c.name; offset = o; of = c.of; generation = c.generation; deleters = c.deleters }
@@ -45,19 +52,28 @@ span_of c k = record { first = c; count = k }
 with_deleters : (c : CellData) (m : ℕ) → c.deleters ≡ []
     → span_of (record { name = c.name; offset = c.offset; of = c.of; generation = c.generation; deleters = [] }) m ≡ span_of c m
 with_deleters c m bare =
-    ap (λ (ds : List (NameData × ℕ)). span_of (record { name = c.name; offset = c.offset; of = c.of; generation = c.generation; deleters = ds }) m)
+    ap (λ (ds : List (NameData × ℕ)).
+    span_of (record { name = c.name; offset = c.offset; of = c.of; generation = c.generation; deleters = ds }) m)
     (sym bare)
 
 -- the part of a span that no delete has hit
 pub cut_numbered : (c : CellData) (k n m count : ℕ) → c.of ≡ 1 → c.deleters ≡ [] → n ≡ c.name.number + k → m ≡ count - k
-    → span_of (record { name = record { site = c.name.site; number = n }; offset = c.offset; of = c.of; generation = c.generation; deleters = [] }) m
+    → span_of (record {
+      name = record { site = c.name.site; number = n };
+      offset = c.offset;
+      of = c.of;
+      generation =
+          c.generation;
+      deleters = [];
+    }) m
     ≡ span_of (after c k) (count - k)
 cut_numbered c k n m count one bare is left =
     with_deleters (numbered c n) m bare
     ∙ ap (λ d. span_of d m) (sym (after_numbered c k n one is)) ∙ ap (λ j. span_of (after c k) j) left
 
 pub cut_placed : (c : CellData) (k o m count : ℕ) → c.of ≢ 1 → c.deleters ≡ [] → o ≡ c.offset + k → m ≡ count - k
-    → span_of (record { name = c.name; offset = o; of = c.of; generation = c.generation; deleters = [] }) m ≡ span_of (after c k) (count - k)
+    → span_of (record { name = c.name; offset = o; of = c.of; generation = c.generation; deleters = [] }) m
+    ≡ span_of (after c k) (count - k)
 cut_placed c k o m count several bare is left =
     with_deleters (placed c o) m bare
     ∙ ap (λ d. span_of d m) (sym (after_placed c k o several is)) ∙ ap (λ j. span_of (after c k) j) left

@@ -42,7 +42,17 @@ pub struct Cells {
 impl Model for Cells {
     ghost Value = { CellsData };
 
-    ghost view = { λ c. record { chunks = c.chunks.chunks; cells = c.chunks.cells; texts = c.chunks.texts; text = c.chunks.text; room = record { ready = option_map (λ r. record { place = r.place; len = r.len }) c.ready; deleters = c.spare; gaps = c.chunks.gaps } } };
+    ghost view = { λ c. record {
+      chunks = c.chunks.chunks;
+      cells = c.chunks.cells;
+      texts = c.chunks.texts;
+      text = c.chunks.text;
+      room = record {
+        ready = option_map (λ r. record { place = r.place; len = r.len }) c.ready;
+        deleters = c.spare;
+        gaps = c.chunks.gaps;
+      };
+    } };
 
     ghost invariant = { λ c. IfSome c.ready (λ r. IsReady c.chunks r) × AreInserts c.chunks.cells };
 }
@@ -377,8 +387,10 @@ impl Cells {
     /// The insert of several cells that a cover marks, and the generation; None where it marks the cell at its place
     /// alone.
     fn several(&self, cover: &Cover) -> Option<(Name, u16)>
-        ensures several { let c = cover.now in let cs = self.now.cells in IfSome result (λ r. marked_in c.place c.mark cs ≡ map (raised_run r.1 r.0) cs) }
-        ensures alone { let c = cover.now in let cs = self.now.cells in IfNone result (marked_in c.place c.mark cs ≡ change_at c.place (marked c.mark) cs) }
+        ensures several { let c = cover.now in let cs = self.now.cells in IfSome result (λ r. marked_in c.place c.mark cs
+            ≡ map (raised_run r.1 r.0) cs) }
+        ensures alone { let c = cover.now in let cs = self.now.cells in IfNone result (marked_in c.place c.mark cs
+            ≡ change_at c.place (marked c.mark) cs) }
     {
         let Mark::Own { generation } = cover.mark else {
             return None;

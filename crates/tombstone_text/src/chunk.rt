@@ -68,7 +68,12 @@ pub(crate) struct Chunk {
 impl Model for Chunk {
     ghost Value = { ChunkData };
 
-    ghost view = { λ c. record { cells = cells_in c.spans.items; text = c.text.items; room = min FULL (min (vec_capacity c.flags) (vec_capacity c.text)); gaps = vec_capacity c.spans - vec_len c.spans } };
+    ghost view = { λ c. record {
+      cells = cells_in c.spans.items;
+      text = c.text.items;
+      room = min FULL (min (vec_capacity c.flags) (vec_capacity c.text));
+      gaps = vec_capacity c.spans - vec_len c.spans;
+    } };
 
     ghost invariant = { λ c. IsChunk c.spans.items c.flags.items c.text.items };
 }

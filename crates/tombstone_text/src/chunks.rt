@@ -81,9 +81,20 @@ pub(crate) struct Chunks {
 impl Model for Chunks {
     ghost Value = { ChunksData };
 
-    ghost view = { λ c. record { chunks = bodies c.list.items; cells = flat (bodies c.list.items); texts = texts_of c.list.items; text = joined (texts_of c.list.items); rooms = rooms_of c.list.items; gaps = gaps_of c.list.items; fresh = fresh_room c.fresh; fresh_gaps = fresh_gaps c.fresh; spare = min (vec_capacity c.list - vec_len c.list) (min c.lens.spare (min c.shown.spare c.weights.spare)) } };
+    ghost view = { λ c. record {
+      chunks = bodies c.list.items;
+      cells = flat (bodies c.list.items);
+      texts = texts_of c.list.items;
+      text = joined (texts_of c.list.items);
+      rooms = rooms_of c.list.items;
+      gaps = gaps_of c.list.items;
+      fresh = fresh_room c.fresh;
+      fresh_gaps = fresh_gaps c.fresh;
+      spare = min (vec_capacity c.list - vec_len c.list) (min c.lens.spare (min c.shown.spare c.weights.spare));
+    } };
 
-    ghost invariant = { λ c. IsText (bodies c.list.items) c.lens.parts c.shown.parts c.fresh × AreBeside (texts_of c.list.items) c.lens.parts × AreWeights (column_of c.weights) c.list.items };
+    ghost invariant = { λ c. IsText (bodies c.list.items) c.lens.parts c.shown.parts c.fresh
+        × AreBeside (texts_of c.list.items) c.lens.parts × AreWeights (column_of c.weights) c.list.items };
 }
 
 impl Chunks {

@@ -36,7 +36,16 @@ pub(crate) struct Span {
 impl Model for Span {
     ghost Value = { SpanData };
 
-    ghost view = { λ s. record { first = record { name = s.name; offset = s.offset; of = s.last + 1; generation = s.generation; deleters = s.deleters }; count = s.more + 1 } };
+    ghost view = { λ s. record {
+      first = record {
+        name = s.name;
+        offset = s.offset;
+        of = s.last + 1;
+        generation = s.generation;
+        deleters = s.deleters;
+      };
+      count = s.more + 1;
+    } };
 
     ghost invariant = { λ s. IsSpan s.name s.offset s.last s.more s.deleters };
 }
@@ -57,7 +66,10 @@ impl Span {
     fn plain(name: Name, generation: u16, offset: u8, last: u8, more: u8) -> Span
         requires numbers { last ≡ 0 → name.number + more ≤ NUMBERS }
         requires offsets { 1 ≤ last → offset + more < LETTERS }
-        ensures { result ≡ record { first = record { name = name; offset = offset; of = last + 1; generation = generation; deleters = [] }; count = more + 1 } }
+        ensures { result ≡ record {
+          first = record { name = name; offset = offset; of = last + 1; generation = generation; deleters = [] };
+          count = more + 1;
+        } }
     {
         Span {
             name,

@@ -122,7 +122,9 @@ pub(crate) fn border(spans: &mut Vec<Span>, at: usize) -> usize
 fn join(spans: &mut Vec<Span>, i: usize, ins: &Ins) -> bool
     requires within { i ≤ vec_len spans.old }
     requires filled { AreFilled (pieces spans.old.items) }
-    ensures joined { IsTrue result → cells_in spans.new.items ≡ put_in (length (flat (take i (pieces spans.old.items)))) (bare_cells ins.now) (cells_in spans.old.items) }
+    ensures joined { IsTrue result
+        → cells_in spans.new.items
+        ≡ put_in (length (flat (take i (pieces spans.old.items)))) (bare_cells ins.now) (cells_in spans.old.items) }
     ensures filled { AreFilled (pieces spans.new.items) }
     ensures kept { IsFalse result → spans.new.items ≡ spans.old.items }
     ensures capacity { vec_capacity spans.new ≡ vec_capacity spans.old }

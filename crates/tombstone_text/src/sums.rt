@@ -26,7 +26,10 @@ pub(crate) struct Sums {
 impl Model for Sums {
     ghost Value = { Column };
 
-    ghost view = { λ s. record { parts = s.parts.items; spare = min (vec_capacity s.parts) (BLOCK * vec_capacity s.blocks) - vec_len s.parts } };
+    ghost view = { λ s. record {
+      parts = s.parts.items;
+      spare = min (vec_capacity s.parts) (BLOCK * vec_capacity s.blocks) - vec_len s.parts;
+    } };
 
     ghost invariant = { λ s. IsTotal s.total s.parts.items × AreBlocks s.blocks.items s.parts.items };
 }

@@ -24,7 +24,12 @@ impl Model for Weights {
 
     ghost Value = { WeightsData };
 
-    ghost view = { λ w. record { bytes = w.bytes.parts; units = w.units.parts; lines = w.lines.parts; spare = min w.bytes.spare (min w.units.spare w.lines.spare) } };
+    ghost view = { λ w. record {
+      bytes = w.bytes.parts;
+      units = w.units.parts;
+      lines = w.lines.parts;
+      spare = min w.bytes.spare (min w.units.spare w.lines.spare);
+    } };
 }
 
 impl Weights {

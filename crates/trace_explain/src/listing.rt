@@ -57,7 +57,8 @@ impl Listing {
     /// Appends a line, which serves the pair from now on with this number and form.
     pub fn push(&mut self, key: Key, line: &TraceLine, listed: &Listed) -> Result<(), Memory>
         ensures lines { OnOk result (self.new.lines.items ≡ self.old.lines.items ++ line.now ∷ []) }
-        ensures served { OnOk result ((q : KeyData) → (data_of self.new).at q ≡ (if key_eq key q then Some listed.now else (data_of self.old).at q)) }
+        ensures served { OnOk result ((q : KeyData)
+            → (data_of self.new).at q ≡ (if key_eq key q then Some listed.now else (data_of self.old).at q)) }
     {
         self.lines.reserve(1)?;
         self.listed.insert(key, *listed)?;

@@ -66,7 +66,10 @@ impl Work {
 
     /// Puts a line, with its number and its form, before the others.
     pub fn put(&mut self, number: u64, form: &Form) -> Result<(), Memory>
-        ensures { OnOk result (self.new ≡ record { tasks = self.old.tasks; done = record { number = number; form = form.now } ∷ self.old.done }) }
+        ensures { OnOk result (self.new ≡ record {
+          tasks = self.old.tasks;
+          done = record { number = number; form = form.now } ∷ self.old.done;
+        }) }
     {
         self.done.reserve(1)?;
         self.done.push_reserved(Listed {

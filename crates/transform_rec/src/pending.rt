@@ -129,7 +129,8 @@ fn take_out(
     requires own { (y : Member) → has own.now.set y ≡ base_has book.now.ops at.old.member y }
     requires walk { (from : KeyData) × IsWalk book.now.ops from at.old rest.old.items (i + 1) }
     ensures member { at.new.member ≡ at.old.member }
-    ensures walk { OnOk result ((from : KeyData) → IsWalk book.now.ops from at.old rest.old.items (i + 1) → IsWalk book.now.ops from at.new rest.new.items i) }
+    ensures walk { OnOk result ((from : KeyData) → IsWalk book.now.ops from at.old rest.old.items (i + 1)
+        → IsWalk book.now.ops from at.new rest.new.items i) }
 {
     book.known();
     let x = member_at(book, i);

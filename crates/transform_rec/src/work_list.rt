@@ -105,7 +105,8 @@ fn advance<F: Include + Copy, B: Bases<F>>(
     requires bases { AreBasesOf ⟦<B as Bases<F>>⟧ bases.now book.now.ops }
     requires known { AreForms F.over (family_over ⟦<B as Bases<F>>⟧ bases.now book.now.ops) cache.old.entries }
     requires waits { (T : Member → Bool) × IsWaiting F.over (family_over ⟦<B as Bases<F>>⟧ bases.now book.now.ops) T x.now pair.old }
-    ensures added { IfOk result (λ o. IsNone o → IsStep F.over (family_over ⟦<B as Bases<F>>⟧ bases.now book.now.ops) x.now pair.old pair.new) }
+    ensures added { IfOk result (λ o. IsNone o
+        → IsStep F.over (family_over ⟦<B as Bases<F>>⟧ bases.now book.now.ops) x.now pair.old pair.new) }
     ensures same { IfOk result (λ o. IfSome o (λ _. pair.new ≡ pair.old)) }
     ensures begun { IfOk result (λ o. IfSome o (IsBegun F.over (family_over ⟦<B as Bases<F>>⟧ bases.now book.now.ops) x.now pair.new)) }
     ensures known { AreForms F.over (family_over ⟦<B as Bases<F>>⟧ bases.now book.now.ops) cache.new.entries }

@@ -28,9 +28,11 @@ pub trait Applies: Include {
 
     ghost fits_after: { (s : State) (a b : Self) → Self.Apart a b → Fits s a → Fits s b → Fits (apply s a) (Self.over b a) };
 
-    ghost tp1: { (s : State) (a b : Self) → Self.Apart a b → Fits s a → Fits s b → apply (apply s a) (Self.over b a) ≡ apply (apply s b) (Self.over a b) };
+    ghost tp1: { (s : State) (a b : Self) → Self.Apart a b → Fits s a → Fits s b
+        → apply (apply s a) (Self.over b a) ≡ apply (apply s b) (Self.over a b) };
 
-    ghost kept: { (a : Self) → (length (added a) ≡ Self.extent a) × ((s : State) → Fits s a → IsPutAmong (cells s) (added a) (cells (apply s a))) };
+    ghost kept: { (a : Self) → (length (added a) ≡ Self.extent a)
+        × ((s : State) → Fits s a → IsPutAmong (cells s) (added a) (cells (apply s a))) };
 
     ghost added_over: { (a b : Self) → added (Self.over a b) ≡ added a };
 }

@@ -32,9 +32,11 @@ pub trait Bases<F: Include> {
     fn known(&self)
         ensures { IsKnown self.now };
 
-    ghost apart: { (s : Self) (m x : Member) → IsKnown s → IsIn m (members s) → IsIn x (members s) → m ≢ x → base_context s m x ≡ false → base_context s x m ≡ false → F.Apart (base_form s m) (base_form s x) };
+    ghost apart: { (s : Self) (m x : Member) → IsKnown s → IsIn m (members s) → IsIn x (members s) → m ≢ x → base_context s m x ≡ false
+        → base_context s x m ≡ false → F.Apart (base_form s m) (base_form s x) };
 
-    ghost bounded: { (s : Self) (m : Member) → IsKnown s → IsIn m (members s) → F.IsBounded (base_form s m) (sum_where (base_context s m) (λ x. F.extent (base_form s x)) (members s)) };
+    ghost bounded: { (s : Self) (m : Member) → IsKnown s → IsIn m (members s)
+        → F.IsBounded (base_form s m) (sum_where (base_context s m) (λ x. F.extent (base_form s x)) (members s)) };
 
     ghost total: { (s : Self) → IsKnown s → total_by (λ x. F.extent (base_form s x)) (members s) ≤ CELLS };
 }

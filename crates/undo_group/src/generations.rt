@@ -32,7 +32,8 @@ pub fn in_force(have: &Vector, name: &Name) -> bool
 pub fn next_generation(have: &Vector, name: &Name) -> Option<u16>
     ensures full { IsNone result ↔ (entry_of have.now.set name.now ≡ GENERATIONS) }
     ensures next { IfSome result (λ g. g ≡ entry_of have.now.set name.now + 1) }
-    ensures history { (h : List OpData) → IsValid h → have.now.set ≡ context_of_all h → IfSome result (λ g. g ≡ generation_in h name.now + 1) }
+    ensures history { (h : List OpData) → IsValid h → have.now.set ≡ context_of_all h
+        → IfSome result (λ g. g ≡ generation_in h name.now + 1) }
 {
     generation(have, name).checked_add(1)
 }

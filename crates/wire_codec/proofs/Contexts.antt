@@ -15,11 +15,11 @@ use Rattle.wire_codec.specs.declared.version.Version.{Version}
 use Rattle.wire_codec.specs.Versions.{site_width, sites}
 use Rattle.wire_codec.specs.Runs.{names_in, runs_of, listing_of}
 use Rattle.wire_codec.specs.Spelling.{head_of, op_of, site_bytes, head_bytes, count_bytes, counts_bytes, runs_bytes, entries_bytes, context_bytes, body_bytes}
-use Rattle.wire_codec.specs.Reading.{LeftData, ◌>>=◌, number, tested, bounded, site_at, head_at, many, count_at, site_after, counts_at, runs_at, context_at, op_at}
+use Rattle.wire_codec.specs.Reading.{Follow, LeftData, ◌>>=◌, number, tested, bounded, site_at, head_at, many, count_at, site_after, counts_at, runs_at, context_at, op_at}
 use Rattle.wire_codec.proofs.TwoWays.{Reads, bind, mapped, mapped_where, in_words, tested_reads}
 use Rattle.wire_codec.proofs.Numbers.{wide32, number_reads, bounded_reads}
 use Rattle.wire_codec.proofs.Sites.{IsSite, site_limit, wide_site, sites_fit, sites_most, CountsIn, EntriesIn, AllFit}
-use Rattle.wire_codec.proofs.Lists.{Follow, many_reads}
+use Rattle.wire_codec.proofs.Lists.{many_reads}
 use Rattle.wire_codec.proofs.RunNames.{names_of_runs}
 use Rattle.wire_codec.proofs.RunReads.{FitRuns, runs_reads, fit_again, fit_entries, entries_fit}
 use Rattle.wire_codec.proofs.Fields.{IsHead, site_reads, head_reads}

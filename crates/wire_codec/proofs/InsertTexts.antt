@@ -10,10 +10,10 @@ use Rattle.std.proofs.Math.Utf8.{scalar, scalar_fits}
 use Rattle.op_name.specs.declared.limits.TheConstants.{LETTERS}
 use Rattle.wire_codec.specs.declared.cause.Cause.TheVariants.{Range, Char}
 use Rattle.wire_codec.specs.Spelling.{insert_kind, length_bytes, character_bytes}
-use Rattle.wire_codec.specs.Reading.{number, bounded, length_at, character_at, any_after, characters_at}
+use Rattle.wire_codec.specs.Reading.{Follow, number, bounded, length_at, character_at, any_after, characters_at}
 use Rattle.wire_codec.proofs.TwoWays.{Reads, in_words, tested_reads, end}
 use Rattle.wire_codec.proofs.Numbers.{wide16, wide32, number_reads, bounded_reads}
-use Rattle.wire_codec.proofs.Lists.{Follow, many_reads}
+use Rattle.wire_codec.proofs.Lists.{many_reads}
 
 -- ---- how many characters there are
 

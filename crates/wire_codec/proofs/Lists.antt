@@ -4,14 +4,9 @@ use Rattle.std.specs.List.{flat_map}
 use Rattle.std.proofs.lemmas.List.{length-append}
 use Rattle.std.proofs.lemmas.List.Concat.{flat_map-cons}
 use Rattle.wire_codec.specs.declared.fault.Fault.{Fault}
-use Rattle.wire_codec.specs.Reading.{LeftData, left_at, Found, ◌>>=◌, many}
+use Rattle.wire_codec.specs.Reading.{Follow, LeftData, left_at, Found, ◌>>=◌, many}
 use Rattle.wire_codec.proofs.Steps.{IsBytes, ok_is, bind_ok, bind_err}
 use Rattle.wire_codec.proofs.TwoWays.{Takes, Takes-then, Takes-ends, Reads}
-
--- each element fits the state before it
-abbrev pub Follow : {S A : Type 0} → (S → A → Type 0) → (S → A → S) → S → List A → Type 0
-Follow Is next state [] = Unit {0}
-Follow Is next state (x ∷ xs) = Is state x × Follow Is next (next state x) xs
 
 module _ {S A : Type 0} (step : S → LeftData → Found A) (next : S → A → S) (spell : A → List ℕ) (Is : S → A → Type 0)
     (one : (s : S) → Reads (step s) spell (Is s)) where

@@ -18,14 +18,14 @@ use Rattle.wire_codec.specs.declared.listing.Listing.{Listing}
 use Rattle.wire_codec.specs.declared.listing.Listing.TheVariants.{Names, Runs, LongRuns}
 use Rattle.wire_codec.specs.Runs.{RunData, run_of, further, names_from, names_in, joins, goes_on, in_front, runs_of, runs_width, listing_of, version_of}
 use Rattle.wire_codec.specs.Spelling.{name_bytes, run_length_bytes, run_bytes, runs_bytes}
-use Rattle.wire_codec.specs.Reading.{LeftData, ◌>>=◌, number, tested, bounded, name_at, many, Before, nothing_before, is_above, are_numbered, may_have, some_at, run_length_at, is_apart, next_run_at, run_at, before_next, runs_at}
+use Rattle.wire_codec.specs.Reading.{Follow, LeftData, ◌>>=◌, number, tested, bounded, name_at, many, Before, nothing_before, is_above, are_numbered, may_have, some_at, run_length_at, is_apart, next_run_at, run_at, before_next, runs_at}
 use Rattle.wire_codec.specs.Judging.{run_len}
 use Rattle.wire_codec.specs.Code.RunLists.{HasNames, StandsBelow, AreRuns, HasLength, StandsApart, AreApart}
 use Rattle.wire_codec.specs.Code.Puts.{EntriesIn}
 use Rattle.wire_codec.proofs.Steps.{IsBytes}
 use Rattle.wire_codec.proofs.TwoWays.{Reads, bind, mapped, in_words, tested_reads, end}
 use Rattle.wire_codec.proofs.Numbers.{wide16, wide32, number_reads, bounded_reads}
-use Rattle.wire_codec.proofs.Lists.{Follow, many_reads}
+use Rattle.wire_codec.proofs.Lists.{many_reads}
 use Rattle.wire_codec.proofs.Sites.{IsSite, sites_most}
 use Rattle.wire_codec.proofs.Fields.{IsNamed, name_reads}
 use Rattle.wire_codec.proofs.RunNames.{joined, by_test, names_of_runs, runs_of_names, runs_rise, whole_runs, count_names, length-names, names_counted, length-runs}

@@ -17,14 +17,14 @@ use Rattle.wire_codec.specs.declared.listing.Listing.TheVariants.{LongRuns}
 use Rattle.wire_codec.specs.Versions.{sites}
 use Rattle.wire_codec.specs.Runs.{RunData, names_in, runs_of}
 use Rattle.wire_codec.specs.Spelling.{count_bytes, counts_bytes, run_bytes, runs_bytes, entries_bytes}
-use Rattle.wire_codec.specs.Reading.{LeftData, left_at, Found, fault, many, count_at, site_after, run_at, before_next, nothing_before}
+use Rattle.wire_codec.specs.Reading.{Follow, LeftData, left_at, Found, fault, many, count_at, site_after, run_at, before_next, nothing_before}
 use Rattle.wire_codec.specs.Judging.{count_len, run_len, length_of, stray_from}
 use Rattle.wire_codec.specs.States.{state_bytes, IsState, unless_stray, judge_runs, judge_named, judge_counted, sites_of, judge_state, IsStateOf}
 use Rattle.wire_codec.proofs.Steps.{IsBytes, IsBytes-take, IsBytes-drop, cond_ok, cond_err}
 use Rattle.wire_codec.proofs.TwoWays.{Reads}
 use Rattle.wire_codec.proofs.Numbers.{wide16, wide32}
 use Rattle.wire_codec.proofs.Sites.{counts_of_two, entries_of_two}
-use Rattle.wire_codec.proofs.Lists.{Follow, many_reads}
+use Rattle.wire_codec.proofs.Lists.{many_reads}
 use Rattle.wire_codec.proofs.Contexts.{IsCount, count_reads, counts_in_order, counts_to, counts_few}
 use Rattle.wire_codec.proofs.RunNames.{names_of_runs, runs_of_names, length-runs}
 use Rattle.wire_codec.proofs.RunReads.{IsRun, run_reads, runs_in_order, runs_in_turn, many_runs, AreNames, names_listed, runs_listed, length-run_list}

@@ -21,6 +21,11 @@ use Rattle.wire_codec.specs.Versions.{site_width, sites}
 use Rattle.wire_codec.specs.Runs.{RunData, run_of, names_in, last_name, joins, goes_on, runs_width, listing_of, version_of}
 use Rattle.wire_codec.specs.Spelling.{op_of}
 
+-- each element fits the state before it
+abbrev pub Follow : {S A : Type 0} → (S → A → Type 0) → (S → A → S) → S → List A → Type 0
+Follow Is next state [] = Unit {0}
+Follow Is next state (x ∷ xs) = Is state x × Follow Is next (next state x) xs
+
 -- the bytes that are left of a body, and the offset of the first of them
 pub record LeftData : Type 0 where
   pub at : ℕ

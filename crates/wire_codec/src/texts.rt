@@ -30,7 +30,8 @@ impl<'a> Model for Characters<'a> {
 
     ghost view = { λ c. elements raw_character character_len c.len c.bytes.now };
 
-    ghost invariant = { λ c. (character_len * c.len ≤ length c.bytes.now) × (all_scalars (elements raw_character character_len c.len c.bytes.now) ≡ true) };
+    ghost invariant = { λ c. (character_len * c.len ≤ length c.bytes.now)
+        × (all_scalars (elements raw_character character_len c.len c.bytes.now) ≡ true) };
 }
 
 impl<'a> Characters<'a> {

@@ -375,7 +375,8 @@ impl Lists {
 
     /// Appends a count. Out of memory, no member comes or goes.
     pub fn push_count(&mut self, alloc: Global, count: Count) -> Result<(), Memory>
-        ensures pushed { OnOk result ((data_of self.new).set ≡ record (data_of self.old).set { counts = (data_of self.old).set.counts ++ count ∷ [] }) }
+        ensures pushed { OnOk result ((data_of self.new).set
+            ≡ record (data_of self.old).set { counts = (data_of self.old).set.counts ++ count ∷ [] }) }
         ensures kept { OnErr result ((data_of self.new).set ≡ (data_of self.old).set) }
     {
         if let Lists::Few(counts) = self {
@@ -396,7 +397,8 @@ impl Lists {
     pub fn push_entry(&mut self, alloc: Global, name: Name, generation: u16) -> Result<(), Memory>
         requires last { NamesBelow (data_of self.old).set.entries name }
         requires least { 1 ≤ generation }
-        ensures pushed { OnOk result ((data_of self.new).set ≡ record (data_of self.old).set { entries = (data_of self.old).set.entries ++ (name, generation) ∷ [] }) }
+        ensures pushed { OnOk result ((data_of self.new).set
+            ≡ record (data_of self.old).set { entries = (data_of self.old).set.entries ++ (name, generation) ∷ [] }) }
         ensures kept { OnErr result ((data_of self.new).set ≡ (data_of self.old).set) }
     {
         self.own(alloc)?;

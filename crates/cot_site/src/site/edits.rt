@@ -286,8 +286,10 @@ impl Site {
         }
     }
 
-    // Integrates the operation, which is next and has all members of the history as context.
-    fn integrate_own(&mut self, op: Op) -> Result<(), Memory>
+    /// Integrates an operation that comes next and has all members of the history as context, as one has that is made here. It isn't
+    /// judged, nor is its context compared with what the history has, so it costs less than a delivery. Out of memory the state and the
+    /// forms are as before, and the cache may be empty.
+    pub fn integrate_own(&mut self, op: Op) -> Result<(), Memory>
         requires next { IsNext self.old.history (data_of op) }
         requires own { context_of (data_of op) ≡ context_of_all self.old.history }
         ensures state { OnOk result (state_of self.new ≡ with_last (state_of self.old) (data_of op)) }

@@ -96,8 +96,10 @@ impl Site {
         requires ready { (o : OpData) → slice_get self.old.waiting place ≡ Some o → is_ready self.old.history o ≡ true }
         ensures op { IfOk result (λ p. slice_get self.old.waiting place ≡ Some (data_of p.0)) }
         ensures verdict { IfOk result (λ p. p.1 ≡ judged (without_waiting (state_of self.old) place) (data_of p.0)) }
-        ensures effect { IfOk result (λ p. state_of self.new ≡ after_verdict p.1 (data_of p.0) (without_waiting (state_of self.old) place)) }
-        ensures needed { OnErr result ((o : OpData) → slice_get self.old.waiting place ≡ Some o → judged (without_waiting (state_of self.old) place) o ≡ Integrated) }
+        ensures effect { IfOk result (λ p. state_of self.new
+            ≡ after_verdict p.1 (data_of p.0) (without_waiting (state_of self.old) place)) }
+        ensures needed { OnErr result ((o : OpData) → slice_get self.old.waiting place ≡ Some o
+            → judged (without_waiting (state_of self.old) place) o ≡ Integrated) }
         ensures forms { OnOk result (KeepsForms self.old.forms self.new.forms) }
         ensures entries { OnOk result (self.new.history ≡ self.old.history → self.new.entries ≡ self.old.entries) }
         ensures err { OnErr result (IsAsBefore self.old self.new) }

@@ -112,7 +112,8 @@ pub fn fixed_order(alloc: Global, ops: &[Op]) -> Result<Vec<Inserted>, Memory>
 
 // Makes the order of a list of operations that of the list with this one in front.
 fn put_op(order: &mut Vec<Inserted>, op: &Op) -> Result<(), Memory>
-    ensures { OnOk result ((h : List OpData) → map insertion_of order.old.items ≡ fixed_order h → map insertion_of order.new.items ≡ fixed_order (data_of op.now ∷ h)) }
+    ensures { OnOk result ((h : List OpData) → map insertion_of order.old.items ≡ fixed_order h
+        → map insertion_of order.new.items ≡ fixed_order (data_of op.now ∷ h)) }
 {
     match op {
         Op::Insert {
@@ -136,7 +137,8 @@ fn put_op(order: &mut Vec<Inserted>, op: &Op) -> Result<(), Memory>
 // Puts the insert before the first that it is earlier than.
 #[tactic(auto, using(crate::proofs::Stepwise::put_at))]
 fn put(order: &mut Vec<Inserted>, inserted: Inserted) -> Result<(), Memory>
-    ensures { OnOk result (map insertion_of order.new.items ≡ put_by is_earlier (insertion_of inserted) (map insertion_of order.old.items)) }
+    ensures { OnOk result (map insertion_of order.new.items
+        ≡ put_by is_earlier (insertion_of inserted) (map insertion_of order.old.items)) }
 {
     let place = place_in(order.as_slice(), &inserted);
     put_at(order, place, inserted)

@@ -57,7 +57,8 @@ fn put_at(cells: &mut Vec<CellName>, place: usize, cell: CellName) -> Result<(),
 // Where the insert goes: between its two neighbours among the cells that it knows, and on the right side of
 // each earlier insert that it doesn't know.
 fn stretch_of(inserted: &Inserted, earlier: &[Inserted], cells: &[CellName]) -> Stretch
-    ensures stretch { gap_of (insertion_of inserted.now) (map insertion_of earlier.now) cells.now ≡ gap_between cells.now result.left result.right }
+    ensures stretch { gap_of (insertion_of inserted.now) (map insertion_of earlier.now) cells.now
+        ≡ gap_between cells.now result.left result.right }
     ensures rising { result.left ≤ result.right }
     ensures within { result.right ≤ length cells.now }
 {
@@ -111,7 +112,8 @@ fn narrowed_by(
 ) -> Stretch
     requires rising { stretch.left ≤ stretch.right }
     requires within { stretch.right ≤ length cells.now }
-    ensures stretch { narrowed_by (insertion_of inserted.now) (insertion_of other.now) (gap_between cells.now stretch.left stretch.right) ≡ gap_between cells.now result.left result.right }
+    ensures stretch { narrowed_by (insertion_of inserted.now) (insertion_of other.now) (gap_between cells.now stretch.left stretch.right)
+        ≡ gap_between cells.now result.left result.right }
     ensures rising { result.left ≤ result.right }
     ensures within { result.right ≤ length cells.now }
 {

@@ -57,7 +57,8 @@ module _ (h : List OpData) (v : IsValid h) (form : Member → Form) (forms : Are
       ap (λ (l : List OpData). cells_in l (context_of o)) a.whole in
       omega arith
 
-  insert_place : (n : NameData) (p : ℕ) (text : List ℕ) (c : ContextData) → IsIn (inserting n p text c) h → p ≤ weight_of (base_has h (Original n))
+  insert_place : (n : NameData) (p : ℕ) (text : List ℕ) (c : ContextData) → IsIn (inserting n p text c) h
+      → p ≤ weight_of (base_has h (Original n))
   insert_place n p text c i =
       let o = inserting n p text c in
       let w = placed_weight o n i refl in

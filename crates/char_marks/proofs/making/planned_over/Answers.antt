@@ -2,7 +2,8 @@ use Rattle.std.proofs.Common.{◌≡◌, ℕ, ◌+◌, length, refl, ap, sym, �
 use Rattle.context_vector.specs.Contexts.{ContextData, HasNoStray}
 use Rattle.context_diff.specs.Histories.{context_of_all}
 use Rattle.char_marks.specs.Making.{greatest_number}
-use Rattle.char_marks.proofs.Made.{all_stray}
+use Rattle.context_diff.proofs.CallerLemmas.{complete}
+use Rattle.cot_site.proofs.CallerLemmas.{all_stray}
 use Rattle.char_marks.proofs.making.planned_over.Goals as goal
 
 pub returns-in-Ok-clause-made : goal.returns-in-Ok-clause-made
@@ -28,7 +29,7 @@ returns-in-Ok-clause-made c =
         rank = omega arith;
         len = s.some;
         value = c.requires.range;
-        stray = subst HasNoStray (sym context) (all_stray h c.known.ensures.history);
+        stray = subst HasNoStray (sym context) (all_stray h (complete h c.known.ensures.history));
         entries = omega (arith, long, told, c.entries-entries.ensures.entries, c.if-entries-gt-UNDO_ENTRIES.false);
       };
     }

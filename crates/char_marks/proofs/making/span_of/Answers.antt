@@ -1,7 +1,8 @@
 use Rattle.std.proofs.Common.{◌≡◌, ℕ, ◌+◌, ◌-◌, ◌≤◌, List, Some, slice_get, ap, sym, ◌∙◌, arith}
 use Rattle.context_diff.specs.Replays.{is_shown, replay_of}
 use Rattle.cot_site.specs.Views.{shown_places_of}
-use Rattle.char_marks.proofs.Made.{places_are, shown_count, rising}
+use Rattle.cot_site.proofs.CallerLemmas.{places_are, shown_count}
+use Rattle.char_marks.proofs.Made.{rising}
 use Rattle.char_marks.proofs.making.span_of.Goals as goal
 
 pub shown_place-first-requires : goal.shown_place-first-requires

@@ -3,8 +3,7 @@ use Rattle.context_vector.specs.Contexts.{ContextData}
 use Rattle.context_vector.specs.Vectors.{VectorData}
 use Rattle.context_diff.specs.Histories.{LacksNothing, LacksFirst, IsClosed, cells_in, context_of_all}
 use Rattle.context_diff.specs.Books.{IsFirstOpenSite}
-use Rattle.context_diff.proofs.CallerLemmas.{covered_ready}
-use Rattle.char_marks.proofs.Judging.{lacks_first}
+use Rattle.context_diff.proofs.CallerLemmas.{covered_ready, lacks_first}
 use Rattle.char_marks.proofs.taking.context_verdict.Goals as goal
 
 pub returns-in-Some : goal.returns-in-Some

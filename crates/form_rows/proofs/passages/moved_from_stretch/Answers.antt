@@ -8,7 +8,13 @@ use Rattle.form_rows.proofs.passages.moved_from_stretch.Goals as goal
 
 pub loop-i-init : goal.loop-i-init
 loop-i-init c =
-    record { long = noted_length c.args.over.now c.args.executed.now c.requires.noted; few = c.requires.first; most = omega arith; rest = refl }
+    record {
+      long = noted_length c.args.over.now c.args.executed.now c.requires.noted;
+      few = c.requires.first;
+      most = omega arith;
+      rest =
+          refl;
+    }
 
 pub loop-i-preserved : goal.loop-i-preserved
 loop-i-preserved c =

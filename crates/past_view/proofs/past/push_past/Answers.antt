@@ -8,7 +8,8 @@ use Rattle.past_view.proofs.past.push_past.Goals as goal
 
 pub returns-in_err-push_chunk-clause-err : goal.returns-in_err-push_chunk-clause-err
 returns-in_err-push_chunk-clause-err c =
-    let more = past_text c.args.at.now.set (flat (take c.loop-i.i c.args.cells.now.chunks)) (joined (take c.loop-i.i c.args.cells.now.texts)) in
+    let more =
+    past_text c.args.at.now.set (flat (take c.loop-i.i c.args.cells.now.chunks)) (joined (take c.loop-i.i c.args.cells.now.texts)) in
     let long : length c.args.out.now.items ≡ vec_len c.args.out.now = omega (arith, c.args.out.now.ok.0) in
     on_err c.from_residual.result
     (front_stays c.args.out.now.items more c.loop-i.out.items c.push_chunk.new.out.items (vec_len c.args.out.now) (vec_len c.loop-i.out)

@@ -1,8 +1,7 @@
 use Rattle.std.proofs.Common.{refl, ap, sym, ◌∙◌}
 use Rattle.context_vector.specs.Vectors.{VectorData}
-use Rattle.context_diff.proofs.CallerLemmas.{covered_ready}
+use Rattle.context_diff.proofs.CallerLemmas.{covered_ready, lacks_first}
 use Rattle.past_view.proofs.PastText.{no_stray}
-use Rattle.past_view.proofs.Refusals.{lacks_first}
 use Rattle.past_view.proofs.past.refusal.Goals as goal
 
 pub returns-in-Some-clause-refused : goal.returns-in-Some-clause-refused

@@ -10,7 +10,8 @@ put_char-requires c =
     let ts = c.args.cells.now.text in
     let p = c.args.place in
     let at =
-    end_without cs ts p c.known.ensures.long c.deref.result.now c.visible_before.result c.args.chars c.byte_at-at.result c.byte_at-at.ensures
+    end_without cs ts p c.known.ensures.long c.deref.result.now c.visible_before.result c.args.chars c.byte_at-at.result
+    c.byte_at-at.ensures
     c.visible_before.ensures (c.deref.ensures.value ∙ c.requires.text) c.requires.chars in
     place_within c.args.text.now.items (text_front cs ts p) (text_rest cs ts p) c.byte_at-at.result c.requires.text at
 
@@ -20,7 +21,8 @@ returns c =
     let ts = c.args.cells.now.text in
     let p = c.args.place in
     let at =
-    end_without cs ts p c.known.ensures.long c.deref.result.now c.visible_before.result c.args.chars c.byte_at-at.result c.byte_at-at.ensures
+    end_without cs ts p c.known.ensures.long c.deref.result.now c.visible_before.result c.args.chars c.byte_at-at.result
+    c.byte_at-at.ensures
     c.visible_before.ensures (c.deref.ensures.value ∙ c.requires.text) c.requires.chars in
     on_ok c.put_char.result
     (λ put.

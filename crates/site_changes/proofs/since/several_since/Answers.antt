@@ -21,7 +21,8 @@ changes_at-requires-clause-quiet c =
     let n = c.args.from in
     let ds = c.cells.result.now.cells in
     let found =
-    subst (λ (o : Option (Vec ℕ Global)). IfSome o (λ places. ArePlacesTouched h n (executed applied [] c.args.site.now.forms) places.items))
+    subst (λ (o : Option (Vec ℕ Global)).
+    IfSome o (λ places. ArePlacesTouched h n (executed applied [] c.args.site.now.forms) places.items))
     c.in-Some.is c.in_ok-places.ensures in
     let are : ArePlacesTouched h n ds c.deref.result.now =
     subst (λ (cs : List CellData). ArePlacesTouched h n cs c.deref.result.now) (sym c.cells.ensures.forms)
@@ -38,7 +39,8 @@ returns-in-Some c =
     c.new-at.ensures ∙ ap (λ (l : List OpData). context_of_all (take c.args.from l)) c.book.ensures in
     IfOk-weaker c.changes_at.result (λ cs. cs.items ≡ told (marks_of c.new-at.result c.cells.result.now.cells))
     (λ cs. AreChanges cs.items (shown (take c.args.from h)) (shown h))
-    (λ cs e. told_since h c.known.ensures.history c.args.from c.cells.result.now.cells c.cells.ensures.replayed c.new-at.result at cs.items e)
+    (λ cs e. told_since h c.known.ensures.history c.args.from c.cells.result.now.cells c.cells.ensures.replayed c.new-at.result at cs.items
+    e)
     c.changes_at.ensures
 
 pub returns-in-None : goal.returns-in-None

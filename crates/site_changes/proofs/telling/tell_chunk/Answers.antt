@@ -24,7 +24,8 @@ next_cell-requires c =
 pub tell_cell-requires : goal.tell_cell-requires
 tell_cell-requires c =
     let cs = c.args.cells.now.chunks in
-    let there = first_at (get_or cs c.args.chunk []) c.loop-i.left c.loop-i.i c.next_cell.result c.loop-i.invariant.2 c.next_cell.ensures.first in
+    let there =
+    first_at (get_or cs c.args.chunk []) c.loop-i.left c.loop-i.i c.next_cell.result c.loop-i.invariant.2 c.next_cell.ensures.first in
     let ds = flat (take c.args.chunk cs) ++ take c.loop-i.i (get_or cs c.args.chunk []) in
     let short =
     front_short cs c.args.chunk c.loop-i.i c.next_cell.result c.requires.there there c.args.cells.now.cells
@@ -36,7 +37,8 @@ tell_cell-requires c =
 pub overflow_add-place : goal.overflow_add-place
 overflow_add-place c =
     let cs = c.args.cells.now.chunks in
-    let there = first_at (get_or cs c.args.chunk []) c.loop-i.left c.loop-i.i c.next_cell.result c.loop-i.invariant.2 c.next_cell.ensures.first in
+    let there =
+    first_at (get_or cs c.args.chunk []) c.loop-i.left c.loop-i.i c.next_cell.result c.loop-i.invariant.2 c.next_cell.ensures.first in
     let x = c.next_cell.result in
     let ds = flat (take c.args.chunk cs) ++ take c.loop-i.i (get_or cs c.args.chunk []) in
     record {
@@ -57,7 +59,8 @@ pub loop-i-preserved : goal.loop-i-preserved
 loop-i-preserved c =
     let v = c.args.at.now in
     let cs = c.args.cells.now.chunks in
-    let there = first_at (get_or cs c.args.chunk []) c.loop-i.left c.loop-i.i c.next_cell.result c.loop-i.invariant.2 c.next_cell.ensures.first in
+    let there =
+    first_at (get_or cs c.args.chunk []) c.loop-i.left c.loop-i.i c.next_cell.result c.loop-i.invariant.2 c.next_cell.ensures.first in
     let x = c.next_cell.result in
     let ds = flat (take c.args.chunk cs) ++ take c.loop-i.i (get_or cs c.args.chunk []) in
     let more = front_more cs c.args.chunk c.loop-i.i x c.requires.there there in

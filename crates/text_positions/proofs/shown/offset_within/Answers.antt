@@ -18,7 +18,8 @@ returns c =
     let i = c.shown_chunk-i.result.0 in
     let before = c.shown_chunk-i.result.1 in
     let part = shown_part t.chunks t.texts i before c.args.v c.known.ensures.beside c.shown_chunk-i.ensures in
-    let tell = columns_tell t.chunks t.texts i c.chunk_flags.result.now c.chunk_text.result.now c.chunk_flags.ensures.flags c.chunk_text.ensures in
+    let tell =
+    columns_tell t.chunks t.texts i c.chunk_flags.result.now c.chunk_text.result.now c.chunk_flags.ensures.flags c.chunk_text.ensures in
     omega (
       arith,
       c.weight_start-front.ensures,
@@ -34,7 +35,8 @@ overflow_add-result c =
     let i = c.shown_chunk-i.result.0 in
     let before = c.shown_chunk-i.result.1 in
     let part = shown_part t.chunks t.texts i before c.args.v c.known.ensures.beside c.shown_chunk-i.ensures in
-    let tell = columns_tell t.chunks t.texts i c.chunk_flags.result.now c.chunk_text.result.now c.chunk_flags.ensures.flags c.chunk_text.ensures in
+    let tell =
+    columns_tell t.chunks t.texts i c.chunk_flags.result.now c.chunk_text.result.now c.chunk_flags.ensures.flags c.chunk_text.ensures in
     record {
       fits = omega (
         arith,

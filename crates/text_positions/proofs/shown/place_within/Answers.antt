@@ -26,14 +26,16 @@ returns-in_err-count c =
     let i = c.weight_chunk-i.result.0 in
     let before = c.weight_chunk-i.result.1 in
     let part = weight_chunk m t.chunks t.texts i before _ c.known.ensures.beside c.weight_chunk-i.ensures in
-    let tell = columns_tell t.chunks t.texts i c.chunk_flags.result.now c.chunk_text.result.now c.chunk_flags.ensures.flags c.chunk_text.ensures in
+    let tell =
+    columns_tell t.chunks t.texts i c.chunk_flags.result.now c.chunk_text.result.now c.chunk_flags.ensures.flags c.chunk_text.ensures in
     let front = front_chars t.chunks t.texts i in
     let own = own_chars t.chunks t.texts i in
     let is : characters_in t ≡ whole m front own (later_chars t.chunks t.texts i) =
     sym (ap₂ chars c.known.ensures.chunks c.known.ensures.texts) ∙ parts t.chunks t.texts i c.known.ensures.beside part.0 in
     let next = c.from.ensures in
     let none : HasNoPlace m own (before + 1) =
-    subst (λ n. HasNoPlace m own n) (omega (arith, next)) (subst (λ (l : List ℕ). HasNoPlace m l (c.from.result + 1)) tell c.in_err-count.ensures) in
+    subst (λ n. HasNoPlace m own n) (omega (arith, next))
+    (subst (λ (l : List ℕ). HasNoPlace m l (c.from.result + 1)) tell c.in_err-count.ensures) in
     let missing = missing_within m front own (later_chars t.chunks t.texts i) o (before + 1)
     (omega (arith, part.2, c.requires.some)) (omega arith) (omega (arith, part.1)) none in
     subst (λ (r : Option ℕ). MatchOption r (HasNoPlace m (characters_in t) o) (IsFirstPlace m (characters_in t) o))
@@ -48,14 +50,16 @@ returns c =
     let before = c.weight_chunk-i.result.1 in
     let count = c.in_ok-count.count in
     let part = weight_chunk m t.chunks t.texts i before _ c.known.ensures.beside c.weight_chunk-i.ensures in
-    let tell = columns_tell t.chunks t.texts i c.chunk_flags.result.now c.chunk_text.result.now c.chunk_flags.ensures.flags c.chunk_text.ensures in
+    let tell =
+    columns_tell t.chunks t.texts i c.chunk_flags.result.now c.chunk_text.result.now c.chunk_flags.ensures.flags c.chunk_text.ensures in
     let front = front_chars t.chunks t.texts i in
     let own = own_chars t.chunks t.texts i in
     let is : characters_in t ≡ whole m front own (later_chars t.chunks t.texts i) =
     sym (ap₂ chars c.known.ensures.chunks c.known.ensures.texts) ∙ parts t.chunks t.texts i c.known.ensures.beside part.0 in
     let next = c.from.ensures in
     let first : IsFirstPlace m own (before + 1) count =
-    subst (λ n. IsFirstPlace m own n count) (omega (arith, next)) (subst (λ (l : List ℕ). IsFirstPlace m l (c.from.result + 1) count) tell c.in_ok-count.ensures) in
+    subst (λ n. IsFirstPlace m own n count) (omega (arith, next))
+    (subst (λ (l : List ℕ). IsFirstPlace m l (c.from.result + 1) count) tell c.in_ok-count.ensures) in
     let found = found_within m front own (later_chars t.chunks t.texts i) o (before + 1)
     (omega (arith, part.2, c.requires.some)) (omega arith) count first in
     let at : length front + count ≡ c.shown_start.result + count =
@@ -68,7 +72,8 @@ overflow_add-result c =
     let m = c.args.measure in
     let i = c.weight_chunk-i.result.0 in
     let part = weight_chunk m t.chunks t.texts i _ _ c.known.ensures.beside c.weight_chunk-i.ensures in
-    let tell = columns_tell t.chunks t.texts i c.chunk_flags.result.now c.chunk_text.result.now c.chunk_flags.ensures.flags c.chunk_text.ensures in
+    let tell =
+    columns_tell t.chunks t.texts i c.chunk_flags.result.now c.chunk_text.result.now c.chunk_flags.ensures.flags c.chunk_text.ensures in
     let front = front_chars t.chunks t.texts i in
     let own = own_chars t.chunks t.texts i in
     let is : characters_in t ≡ whole m front own (later_chars t.chunks t.texts i) =

@@ -18,7 +18,8 @@ returns-clause-cells c =
     ap (λ s. cells_in s) now
     ∙ ap (λ cs. flat cs) (pieces_insert ss i x)
     ∙ ap (λ d. flat (insert (pieces ss) i d)) new
-    ∙ flat_insert (pieces ss) i c.args.at (bare_cells a) (omega (arith, c.border-i.ensures.within, pieces_long ss)) c.border-i.ensures.border
+    ∙ flat_insert (pieces ss) i c.args.at (bare_cells a) (omega (arith, c.border-i.ensures.within, pieces_long ss))
+    c.border-i.ensures.border
     ∙ ap (λ s. put_in c.args.at (bare_cells a) s) c.border-i.ensures.cells
 
 pub returns-clause-filled : goal.returns-clause-filled

@@ -84,7 +84,8 @@ loop-i-preserved c =
           ∙ first_more (map f) i (i + 1) (pieces c.args.spans.now.items) (omega arith),
       length-set ss i y ∙ c.loop-i.invariant.1,
       ap (λ (fs : List ℕ). take at fs ++ (c.raise.new.flags ++ drop k (drop at fs))) c.loop-i.invariant.2
-          ∙ ap (λ (fs : List ℕ). take at (map flag_of (cells_in ss)) ++ (fs ++ drop k (drop at (map flag_of (cells_in ss))))) c.raise.ensures.flags
+          ∙ ap (λ (fs : List ℕ). take at (map flag_of (cells_in ss)) ++ (fs ++ drop k (drop at (map flag_of (cells_in ss)))))
+          c.raise.ensures.flags
           ∙ flags_put (pieces ss) i at k (span_cells x) (span_cells y) inside c.loop-i.invariant.3
           (piece_read ss i x lt c.index_mut-span.ensures.value) long
           ∙ ap (λ (cs : List (List CellData)). map flag_of (flat cs)) (sym set_is),

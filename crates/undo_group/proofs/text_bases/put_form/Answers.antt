@@ -10,11 +10,29 @@ use Rattle.undo_group.proofs.text_bases.put_form.Goals as goal
 -- an insert of the site of its name, of as many cells as the text has characters, is the one that the operation says
 named_form : (p : ℕ) (n : NameData) (text : List ℕ) (k : ℕ) → k ≡ cell_count text → (own : n.site ≡ n.site) (some : 1 ≤ k)
     (most : k ≤ LETTERS) → Insert (record { place = p; site = n.site; len = k; name = n; own = own; some = some; most = most })
-    ≡ Insert (record { place = p; site = n.site; len = cell_count text; name = n; own = refl; some = some_cells text; most = few_cells text })
+    ≡ Insert (record {
+      place = p;
+      site = n.site;
+      len = cell_count text;
+      name = n;
+      own = refl;
+      some = some_cells text;
+      most =
+          few_cells text;
+    })
 named_form p n text k is own =
     subst (λ (j : ℕ). (some : 1 ≤ j) (most : j ≤ LETTERS)
     → Insert (record { place = p; site = n.site; len = j; name = n; own = own; some = some; most = most })
-    ≡ Insert (record { place = p; site = n.site; len = cell_count text; name = n; own = refl; some = some_cells text; most = few_cells text }))
+    ≡ Insert (record {
+      place = p;
+      site = n.site;
+      len = cell_count text;
+      name = n;
+      own = refl;
+      some = some_cells text;
+      most =
+          few_cells text;
+    }))
     (sym is) (λ some most i. Insert (record {
       place = p;
       site = n.site;
@@ -28,11 +46,29 @@ named_form p n text k is own =
 -- the same where the site was read of the name
 named_at : (p : ℕ) (m n : NameData) → m ≡ n → (text : List ℕ) (k : ℕ) → k ≡ cell_count text → (own : m.site ≡ n.site) (some : 1 ≤ k)
     (most : k ≤ LETTERS) → Insert (record { place = p; site = m.site; len = k; name = n; own = own; some = some; most = most })
-    ≡ Insert (record { place = p; site = n.site; len = cell_count text; name = n; own = refl; some = some_cells text; most = few_cells text })
+    ≡ Insert (record {
+      place = p;
+      site = n.site;
+      len = cell_count text;
+      name = n;
+      own = refl;
+      some = some_cells text;
+      most =
+          few_cells text;
+    })
 named_at p m n read text k is =
     subst (λ (x : NameData). (own : m.site ≡ x.site) (some : 1 ≤ k) (most : k ≤ LETTERS)
     → Insert (record { place = p; site = m.site; len = k; name = x; own = own; some = some; most = most })
-    ≡ Insert (record { place = p; site = x.site; len = cell_count text; name = x; own = refl; some = some_cells text; most = few_cells text }))
+    ≡ Insert (record {
+      place = p;
+      site = x.site;
+      len = cell_count text;
+      name = x;
+      own = refl;
+      some = some_cells text;
+      most =
+          few_cells text;
+    }))
     read (named_form p m text k is)
 
 pub returns : goal.returns

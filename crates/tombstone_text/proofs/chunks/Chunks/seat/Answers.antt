@@ -15,7 +15,8 @@ find-i-requires c =
 pub returns-else-place-eq0 : goal.returns-else-place-eq0
 returns-else-place-eq0 c =
     let cs = (bodies c.self.inside.list.items) in
-    let part = subst (λ ls. IsPart ls c.find-i.result.0 c.find-i.result.1 (c.args.place - 1)) c.self.invariant.0.lens_are c.find-i.ensures in
+    let part =
+    subst (λ ls. IsPart ls c.find-i.result.0 c.find-i.result.1 (c.args.place - 1)) c.self.invariant.0.lens_are c.find-i.ensures in
     let some = c.if-place-eq0.false in
     let seat : IsSeat cs c.find-i.result.0 (c.find-i.result.1 + 1) c.args.place =
     chunked.seat_behind cs c.find-i.result.0 c.find-i.result.1 (c.find-i.result.1 + 1) (c.args.place - 1) c.args.place part refl

@@ -18,7 +18,11 @@ returns-clause-upper c =
     let seen = ap (λ (v : SpanData). record { first = after v.first c.args.keep; count = v.count - c.args.keep }) c.self.view_is in
     elim c.if-self-eq0.branch [
       | then-self-eq0 w ↦ w.result-is ∙ w.plain.ensures
-          ∙ ap (λ (n : NameData). record { first = record { name = n; offset = s.offset; of = of; generation = s.generation; deleters = [] }; count = s.more - c.args.keep + 1 })
+          ∙ ap (λ (n : NameData). record {
+            first =
+                record { name = n; offset = s.offset; of = of; generation = s.generation; deleters = [] };
+            count = s.more - c.args.keep + 1;
+          })
           w.name_behind-name.ensures
           ∙ cut_numbered first c.args.keep (s.name.number + c.args.keep) (s.more - c.args.keep + 1) (s.more + 1)
           (let e = w.if-self-eq0.true in omega (arith, e)) bare refl left

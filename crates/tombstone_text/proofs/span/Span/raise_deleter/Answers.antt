@@ -8,7 +8,8 @@ invariant_of-self c =
     let count = ap (λ v. v.count) c.self.view_is in
     record {
       rising =
-          subst IsRising (sym c.raise.ensures.raised) (raise_rising c.args.name c.args.generation c.self.inside.deleters c.self.invariant.rising);
+          subst IsRising (sym c.raise.ensures.raised)
+          (raise_rising c.args.name c.args.generation c.self.inside.deleters c.self.invariant.rising);
       bare = λ several. absurd (omega (arith, several, count, c.requires.one));
       numbers = c.self.invariant.numbers;
       offsets = c.self.invariant.offsets;
