@@ -123,6 +123,21 @@ PROMISES = (
         (Start("cotpad_run/specs/Looping.antt", "IsLoopAnswered"),),
     ),
     Promise(
+        "Checkpoints",
+        "A checkpoint is opened as a valid history; that of a history shows its text, and the same later operations may follow both, with "
+        "the same verdicts. What is written is read again, and other bytes are refused by their first fault.",
+        functions("flat_history/src/laws.rt", "checkpoints_are_valid", "histories_have_checkpoints", "flat_is_alike", "flat_extends")
+        + functions("checkpoint/src/flattening.rt", "flatten")
+        + functions("checkpoint_codec/src/reading.rt", "read_checkpoint")
+        + functions("checkpoint_codec/src/writing.rt", "write_checkpoint"),
+    ),
+    Promise(
+        "Marks",
+        "A cell has the value of the last mark in force that covers it; and all orders of the same marks and undos give the same values.",
+        functions("char_marks/src/reading.rt", "cell_values")
+        + functions("char_marks/src/laws.rt", "last_mark_is_last", "any_order_is_one", "same_operations_same_values"),
+    ),
+    Promise(
         "All commands",
         "Each does what its row of the table of commands says, answers with its cause, and says what it leaves: all clauses of `run`.",
         functions(RUN, "run"),
