@@ -11,11 +11,11 @@ use Rattle.ttf_form.specs.Families.{IsIn}
 use Rattle.wire_codec.specs.declared.cause.Cause.TheVariants.{Range, Order, Zero, Stray}
 use Rattle.wire_codec.specs.declared.version.Version.TheVariants.{Two}
 use Rattle.wire_codec.specs.Spelling.{name_bytes}
-use Rattle.wire_codec.specs.Reading.{LeftData, ◌>>=◌, number, tested, bounded, many, name_at}
+use Rattle.wire_codec.specs.Reading.{Follow, LeftData, ◌>>=◌, number, tested, bounded, many, name_at}
 use Rattle.checkpoint_codec.specs.declared.undone.Last.{Last}
 use Rattle.checkpoint_codec.specs.declared.undone.TheConstants.{GROUPS}
 use Rattle.checkpoint_codec.specs.Spelling.{undone_bytes, names_bytes}
-use Rattle.checkpoint_codec.specs.Spelled.{Follow, sum_of}
+use Rattle.checkpoint_codec.specs.Spelled.{sum_of}
 use Rattle.checkpoint_codec.specs.Reading.{is_above, is_original, undone_name_at, generation_at, undone_at, no_name, last_after, names_at}
 use Rattle.wire_codec.proofs.CallerLemmas.{Reads, bind, mapped, in_words, tested_reads, wide16, wide32, number_reads, bounded_reads, many_reads}
 use Rattle.checkpoint_codec.proofs.NameFields.{IsNamed, name_reads}
