@@ -11,6 +11,8 @@ pub mod Strays
 pub mod RunReads
 pub mod Contexts
 pub mod Sizes
+pub mod Going
+pub mod ContextJudgement
 pub mod Judgement
 pub mod StateJudgement
 pub mod StateFronts

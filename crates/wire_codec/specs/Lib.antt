@@ -6,6 +6,7 @@ pub mod Reading
 pub mod Judging
 pub mod Answers
 pub mod States
+pub mod Contexts
 pub mod StreamData
 pub mod Streams
 pub mod Code

@@ -8,6 +8,7 @@
 
 mod answers;
 mod cause;
+mod context_answers;
 mod fault;
 mod front;
 mod head;
@@ -16,6 +17,7 @@ mod laws;
 mod left;
 mod limits;
 mod listing;
+mod lone_contexts;
 mod originals;
 mod rules;
 mod run_reading;
@@ -32,8 +34,10 @@ mod writing;
 
 pub use answers::{Decoded, Scan};
 pub use cause::Cause;
+pub use context_answers::DecodedContext;
 pub use front::{decode, decode_in, decode2, scan, scan_in, scan2};
 pub use laws::{a_fault_stays, frames_apart, judgement_is_the_frames, whole_stream};
+pub use lone_contexts::{decode_context, encode_context};
 pub use rules::{LONGEST_BODY, LONGEST_BODY_TWO};
 pub use state_answers::{DecodedState, StateScan};
 pub use states::{decode_state, scan_state};

@@ -76,8 +76,9 @@ pub(crate) struct LentOp<'a> {
     pub(crate) context: LentContext<'a>,
 }
 
+/// The counts and the undone names of a context.
 #[tactic(auto, unfolding(crate::specs::Reading::context_at))]
-fn context<'a>(left: &mut Left<'a>, version: Version) -> Result<LentContext<'a>, Fault>
+pub(crate) fn context<'a>(left: &mut Left<'a>, version: Version) -> Result<LentContext<'a>, Fault>
     ensures read { after_as context_seen result left.new ≡ context_at version left.old }
     ensures apart { IfOk result (λ c. runs_of (listing_of version) (flat_map names_in c.runs) ≡ c.runs) }
 {

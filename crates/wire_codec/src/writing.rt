@@ -217,7 +217,8 @@ fn put_sites_len(out: &mut Vec<u8>, version: Version, len: u32)
     }
 }
 
-fn put_counts(out: &mut Vec<u8>, version: Version, context: &Vector)
+/// Puts the sites with their counts, and before them how many they are.
+pub(crate) fn put_counts(out: &mut Vec<u8>, version: Version, context: &Vector)
     requires room { HasRoom out.old (site_len version + count_len version * length context.now.set.counts) }
     requires few { length context.now.set.counts ≤ sites version }
     requires sites { CountsIn version context.now.set.counts }

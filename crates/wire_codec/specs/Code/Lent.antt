@@ -34,3 +34,7 @@ judged_as view (Err e) = Err e
 abbrev pub state_as : Result (LentContext × ℕ) Unread → Result (ContextData × ℕ) Unread
 state_as (Ok x) = Ok (context_seen x.0, x.1)
 state_as (Err e) = Err e
+
+abbrev pub context_as : Result (LentContext × ℕ) Fault → Result (ContextData × ℕ) Fault
+context_as (Ok x) = Ok (context_seen x.0, x.1)
+context_as (Err e) = Err e
